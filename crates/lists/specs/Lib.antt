@@ -1,0 +1,3 @@
+-- Small definitions on lists and tests that every crate's contracts use.
+pub mod Lists
+pub mod Rules

@@ -1,0 +1,4 @@
+-- The panels: their table, the codes that drive a dot, and how the dots of a picture lie in its bytes.
+pub mod Panels
+pub mod Codes
+pub mod Dots
