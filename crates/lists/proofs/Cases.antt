@@ -25,7 +25,6 @@ each P (suc n) (more before last) k h =
       | no d ↦ each P n before k (omega arith)
     ]
 
-
 -- ---- tables
 
 -- every entry, and 0, is below a bound

@@ -1,4 +1,5 @@
--- `Panels` has what holds of each panel, `Dots` the laws of dots.
+-- Laws of the tables: `Panels` has what holds of each panel, `Dots` how dots lie in bytes.
 pub mod Panels
+pub mod Registers
 pub mod Codes
 pub mod Dots

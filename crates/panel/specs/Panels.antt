@@ -34,18 +34,3 @@ framesOf panel = getD (16 ∷ 16 ∷ 21 ∷ []) panel 0
 -- the bytes from one row of a bitmap file to the next
 abbrev pub strideOf : ℕ → ℕ
 strideOf panel = getD (16 ∷ 28 ∷ 36 ∷ []) panel 0
-
--- the data of register 0x01, which selects the channels
-unfoldable pub channelData : ℕ → List ℕ
-channelData panel =
-    getD
-    ((0x00 ∷ 0x00 ∷ 0x00 ∷ 0x00 ∷ 0x00 ∷ 0x0F ∷ 0xFF ∷ 0x00 ∷ [])
-    ∷ (0x00 ∷ 0x00 ∷ 0x00 ∷ 0x00 ∷ 0x01 ∷ 0xFF ∷ 0xE0 ∷ 0x00 ∷ [])
-    ∷ (0x00 ∷ 0x00 ∷ 0x00 ∷ 0x7F ∷ 0xFF ∷ 0xFE ∷ 0x00 ∷ 0x00 ∷ [])
-    ∷ [])
-    panel
-    []
-
--- the data of register 0x04, the gate source level
-unfoldable pub gateSourceLevel : ℕ → ℕ
-gateSourceLevel panel = getD (0x03 ∷ 0x03 ∷ 0x00 ∷ []) panel 0

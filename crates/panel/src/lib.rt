@@ -7,9 +7,8 @@ ghost use Rattle.panel.specs.Panels.{
   rowBytesOf,
   framesOf,
   strideOf,
-  channelData,
-  gateSourceLevel,
 };
+ghost use Rattle.panel.specs.Registers.{dataLength, channelData, gateSourceLevel};
 ghost use Rattle.panel.specs.Codes.{whereWhite, whereBlack, scanMark};
 
 const ROWS: [usize; 3] = [96, 96, 176];
@@ -19,6 +18,9 @@ const ROW_BYTES: [usize; 3] = [128 / 8, 200 / 8, 264 / 8];
 const FRAMES: [u32; 3] = [16, 16, 21];
 
 const STRIDES: [usize; 3] = [16, 28, 36];
+
+// The bytes of data that registers 0x01 to 0x09 take.
+const DATA_LENGTHS: [usize; 10] = [0, 8, 1, 1, 1, 1, 1, 1, 1, 2];
 
 // The data of register 0x01.
 const CHANNELS: [[u8; 8]; 3] = [
@@ -70,6 +72,16 @@ pub fn stride(panel: usize) -> usize
     ensures { λ r. ⌜ (r ≡ strideOf panel) × (r ≤ 36) ⌝ }
 {
     STRIDES[panel]
+}
+
+// How many bytes of data a register takes; 0 where there is no such register.
+pub fn data_length(register: u8) -> usize
+    ensures { λ r. ⌜ (r ≡ dataLength register) × (r ≤ 8) ⌝ }
+{
+    if 10 <= register {
+        return 0;
+    }
+    DATA_LENGTHS[register as usize]
 }
 
 pub fn channel_data(panel: usize) -> [u8; 8]

@@ -1,5 +1,5 @@
 use mathlib.Core.Path.{refl}
-use Rattle.panel.specs.Panels.{channelData}
+use Rattle.panel.specs.Registers.{channelData}
 use borrow.Author.Needs.{needs}
 use Rattle.panel.proofs.channel_data.Statement.{statement}
 use Rattle.panel.proofs.channel_data.Tie as tie

@@ -1,5 +1,5 @@
 use mathlib.Core.Path.{refl}
-use Rattle.panel.specs.Panels.{gateSourceLevel}
+use Rattle.panel.specs.Registers.{gateSourceLevel}
 use borrow.Author.Needs.{needs}
 use Rattle.panel.proofs.gate_source_level.Statement.{statement}
 use Rattle.panel.proofs.gate_source_level.Tie as tie

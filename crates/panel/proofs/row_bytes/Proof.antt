@@ -16,7 +16,7 @@ array-read-result : tie.Need-array-read-result
 array-read-result c = search needs
 
 returns : tie.Need-returns
-returns c = 
+returns c =
     each-panel (λ p. (getD (16 ∷ 25 ∷ 33 ∷ []) p 0 ≡ rowBytesOf p) × (getD (16 ∷ 25 ∷ 33 ∷ []) p 0 ≤ 33))
     (refl, omega arith)
     (refl, omega arith)

@@ -1,0 +1,8 @@
+-- What a dot is pushed, frame by frame of a run.
+pub mod Excess
+-- What the places of a run say of it, line by line.
+pub mod Places
+-- The sums over any list of moves.
+pub mod Moves
+-- Document 01's table of net pushes.
+pub mod Table

@@ -1,0 +1,1 @@
+// The pure theory of pushes. It has no code: definitions stand in specs/, theorems in proofs/.

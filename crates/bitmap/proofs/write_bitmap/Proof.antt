@@ -1,0 +1,45 @@
+-- The rows are written right behind the header.
+-- Assumes nothing.
+use mathlib.Core.Path.{refl}
+use native.Mathlib.Omega.{arith}
+use borrow.Author.Needs.{needs}
+use Rattle.picture.specs.Slots.{pictureOf}
+use Rattle.bitmap.specs.Header.{headerLength, header}
+use Rattle.bitmap.specs.Bitmap.{fileRows, writtenFile}
+use Rattle.bitmap.proofs.Parts.{part-next}
+use Rattle.bitmap.proofs.RoundTrip.{length-header}
+use Rattle.bitmap.proofs.write_bitmap.Statement.{statement}
+use Rattle.bitmap.proofs.write_bitmap.Tie as tie
+
+write-header-requires : tie.Need-write-header-requires
+write-header-requires c κs = search needs
+
+write-rows-requires : tie.Need-write-rows-requires
+write-rows-requires c κs = search needs
+
+mul-result : tie.Need-mul-result
+mul-result c = search needs
+
+add-result : tie.Need-add-result
+add-result c = search needs
+
+same-length : tie.Need-same-length
+same-length c = search needs
+
+returns : tie.Need-returns
+unfolding writtenFile
+returns c =
+    let c₂ = c .before .before in
+    let c₁ = c₂ .before .before .before .before in
+    let a = c₁ .before .before .before .before .args in
+    let rows = fileRows (a .b) (a .h) (a .s) (pictureOf (a .b) (a .h) (a .raw .now)) in
+    let l = length-header (a .b) (a .h) (a .s) in (
+      refl,
+      part-next 0 (a .out .now) (header (a .b) (a .h) (a .s)) rows headerLength (c₁ .write-header .ensures) (c₂ .write-rows .ensures)
+          (omega arith) (omega arith),
+    )
+
+pub write-bitmap-spec : {M : Type 1} → statement M
+write-bitmap-spec =
+    tie.close
+    (tie.spec write-header-requires write-rows-requires mul-result add-result same-length returns)

@@ -1,0 +1,2 @@
+-- What the program makes of a file.
+pub mod Normal

@@ -1,0 +1,5 @@
+-- `Appended` has the laws of text behind text, `Text` those of numbers as text, `Steps` and `File` those of the lines.
+pub mod Appended
+pub mod Text
+pub mod Steps
+pub mod File

@@ -1,0 +1,5 @@
+-- A settings file as text.
+pub mod Text
+pub mod Listing
+pub mod Appended
+pub mod Accepted

@@ -1,0 +1,20 @@
+-- The lengths of the registers' data.
+-- Assumes nothing.
+use mathlib.Core.Path.{_≡_, refl, sym}
+use mathlib.Core.List.{List, [], _∷_}
+use Prim.Native.Nat.{ℕ, _≤_}
+use native.Mathlib.Omega.{arith}
+use lib.ListN.{getD, List·getD-eq-default}
+use Rattle.lists.proofs.Cases.{entry-lt}
+use Rattle.panel.specs.Registers.{dataLength}
+
+abbrev lengths : List ℕ
+lengths = 0 ∷ 8 ∷ 1 ∷ 1 ∷ 1 ∷ 1 ∷ 1 ∷ 1 ∷ 1 ∷ 2 ∷ []
+
+pub data-length-le : (register : ℕ) → dataLength register ≤ 8
+unfolding dataLength
+data-length-le register = omega (arith, entry-lt 9 lengths refl register)
+
+pub no-register : (register : ℕ) → 10 ≤ register → dataLength register ≡ 0
+unfolding dataLength
+no-register register h = List·getD-eq-default lengths 0 {n = register} h

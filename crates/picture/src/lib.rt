@@ -1,0 +1,188 @@
+// Painting on the slots of the lent memory. A slot has h rows of b bytes.
+ghost use mathlib.Core.Path.{_≡_};
+ghost use Prim.Native.Nat.{_+_, _-_, _*_, _/_, _<_, _≤_};
+ghost use mathlib.Core.Bool.{true};
+ghost use lib.ListN.{length};
+ghost use Rattle.lists.specs.Lists.{overlayAt};
+ghost use Rattle.lists.specs.Rules.{allBelow, firstOf};
+ghost use Rattle.panel.specs.Dots.{dot};
+ghost use Rattle.picture.specs.Slots.{pictureOf, pictureRow, painted};
+ghost use Rattle.picture.specs.Regions.{
+  regionGood,
+  payloadRow,
+  rowClear,
+  payloadGood,
+  regionCases,
+  withRegion,
+};
+
+// Dot x of row y, in rows of b bytes.
+fn get_dot(b: usize, bytes: &[u8], x: usize, y: usize) -> u8
+    requires { ⌜ y * b + x / 8 < length (now bytes) ⌝ }
+    ensures { λ r. ⌜ r ≡ dot b (now (bytes .entry)) x y ⌝ }
+{
+    bytes[y * b + x / 8] >> (7 - x % 8) & 1
+}
+
+// Sets dot x of row y of a slot.
+fn set_dot(b: usize, h: usize, raw: &mut [u8], x: usize, y: usize, v: u8)
+    requires { ⌜ (length (now raw) ≡ h * b) × (x < 8 * b) × (y < h) × (v < 2) × (b ≤ 33) ⌝ }
+    ensures { λ _. ⌜ now (raw .exit) ≡ painted b h (now (raw .entry)) x y 1 1 (λ _ _. v) ⌝ }
+{
+    let at = y * b + x / 8;
+    let mark = 128u8 >> (x % 8);
+    if v == 1 {
+        raw[at] = raw[at] | mark;
+    } else {
+        raw[at] = raw[at] & (255 - mark);
+    }
+}
+
+// Paints the first `width` dots of row j of `rows`, which have rb bytes each, on a slot from dot x of row y on.
+pub fn paint_row(
+    b: usize,
+    h: usize,
+    raw: &mut [u8],
+    x: usize,
+    y: usize,
+    width: usize,
+    rb: usize,
+    rows: &[u8],
+    j: usize,
+)
+    requires { ⌜ (length (now raw) ≡ h * b) × (x + width ≤ 8 * b) × (y < h) × (width ≤ 8 * rb)
+        × (j * rb + rb ≤ length (now rows)) × (0 < b) × (b ≤ 33) ⌝ }
+    ensures { λ _. ⌜ now (raw .exit)
+        ≡ painted b h (now (raw .entry)) x y width 1 (λ u _. dot rb (now (rows .entry)) u j) ⌝ }
+{
+    let mut i = 0;
+    while i < width {
+        set_dot(b, h, raw, x + i, y, get_dot(rb, rows, i, j));
+        i += 1;
+    }
+}
+
+// Paints `height` rows of rb bytes on a slot, at x, y.
+fn paint_rows(
+    b: usize,
+    h: usize,
+    raw: &mut [u8],
+    x: usize,
+    y: usize,
+    width: usize,
+    height: usize,
+    rb: usize,
+    rows: &[u8],
+)
+    requires { ⌜ (length (now raw) ≡ h * b) × (x + width ≤ 8 * b) × (y + height ≤ h) × (width ≤ 8 * rb)
+        × (height * rb ≤ length (now rows)) × (0 < b) × (b ≤ 33) × (h ≤ 176) ⌝ }
+    ensures { λ _. ⌜ now (raw .exit)
+        ≡ painted b h (now (raw .entry)) x y width height (dot rb (now (rows .entry))) ⌝ }
+{
+    let mut j = 0;
+    while j < height {
+        paint_row(b, h, raw, x, y + j, width, rb, rows, j);
+        j += 1;
+    }
+}
+
+// Copies row y of the picture that a slot holds into `out`, from index `at` on.
+pub fn copy_row(b: usize, h: usize, raw: &[u8], y: usize, out: &mut [u8], at: usize)
+    requires { ⌜ (length (now raw) ≡ h * b) × (y < h) × (b ≤ 33) × (h ≤ 176) × (at + b ≤ length (now out)) ⌝ }
+    ensures { λ _. ⌜ now (out .exit)
+        ≡ overlayAt at (pictureRow b (pictureOf b h (now (raw .entry))) y) (now (out .entry)) ⌝ }
+{
+    let start = y * b;
+    let end = start + b;
+    lists::put_at(out, at, &raw[start..end]);
+}
+
+// Whether a region lies on the panel. The sums are whole numbers: they are made wider before they are added.
+fn region_good(b: usize, h: usize, x: u32, y: u32, width: u32, height: u32) -> bool
+    requires { ⌜ (b ≤ 33) × (h ≤ 176) ⌝ }
+    ensures { λ r. ⌜ r ≡ regionGood b h x y width height ⌝ }
+{
+    if width < 1 {
+        return false;
+    }
+    if height < 1 {
+        return false;
+    }
+    if 8 * b < x as usize + width as usize {
+        return false;
+    }
+    y as usize + height as usize <= h
+}
+
+fn rows_clear(width: usize, height: usize, payload: &[u8]) -> bool
+    requires { ⌜ (1 ≤ width) × (width ≤ 264) × (length (now payload) ≡ height * payloadRow width) ⌝ }
+    ensures { λ r. ⌜ r ≡ allBelow height (rowClear width (now (payload .entry))) ⌝ }
+{
+    let rb = (width + 7) / 8;
+    let unused = 1u8 << (rb * 8 - width);
+    let mut j = 0;
+    while j < height {
+        if payload[j * rb + rb - 1] % unused != 0 {
+            return false;
+        }
+        j += 1;
+    }
+    true
+}
+
+fn payload_good(width: usize, height: usize, payload: &[u8]) -> bool
+    requires { ⌜ (1 ≤ width) × (width ≤ 264) × (height ≤ 176) ⌝ }
+    ensures { λ r. ⌜ r ≡ payloadGood width height (now (payload .entry)) ⌝ }
+{
+    if payload.len() != height * ((width + 7) / 8) {
+        return false;
+    }
+    rows_clear(width, height, payload)
+}
+
+// The number of a region's refusal, 5 or 6; 0 where it is good.
+pub fn region_number(b: usize, h: usize, x: u32, y: u32, width: u32, height: u32, payload: &[u8]) -> u8
+    requires { ⌜ (b ≤ 33) × (h ≤ 176) ⌝ }
+    ensures { λ r. ⌜ r ≡ firstOf (regionCases b h x y width height (now (payload .entry))) (λ n. n) 0 ⌝ }
+{
+    if !region_good(b, h, x, y, width, height) {
+        return 5;
+    }
+    if !payload_good(width as usize, height as usize, payload) {
+        return 6;
+    }
+    0
+}
+
+// Paints a good region on a slot of the memory.
+pub fn paint_region(
+    b: usize,
+    h: usize,
+    memory: &mut [u8],
+    slot: usize,
+    x: u32,
+    y: u32,
+    width: u32,
+    height: u32,
+    payload: &[u8],
+)
+    requires { ⌜ (0 < b) × (b ≤ 33) × (h ≤ 176) × (slot ≤ 7) × (slot * (h * b) + h * b ≤ length (now memory))
+        × (regionGood b h x y width height ≡ true) × (payloadGood width height (now payload) ≡ true) ⌝ }
+    ensures { λ _. ⌜ now (memory .exit)
+        ≡ withRegion b h (now (memory .entry)) slot x y width height (now (payload .entry)) ⌝ }
+{
+    let start = slot * (h * b);
+    let end = start + h * b;
+    let w = width as usize;
+    paint_rows(
+        b,
+        h,
+        &mut memory[start..end],
+        x as usize,
+        y as usize,
+        w,
+        height as usize,
+        (w + 7) / 8,
+        payload,
+    );
+}

@@ -1,0 +1,170 @@
+-- Laws of single steps, and of a list of steps that is passed one by one.
+-- Assumes nothing.
+use mathlib.Core.Path.{_≡_, refl, sym, ap, _∙_}
+use mathlib.Core.Bool.{Bool, true, false, cond, _&&_}
+use mathlib.Core.List.{List, _∷_}
+use Prim.Native.Nat.{ℕ, zero, suc, _+_, _-_, _*_, _≤_, _<_}
+use native.Mathlib.Nat.{sub-zero, suc-sub-suc}
+use native.Mathlib.Numerals.{sub-one}
+use native.Mathlib.Omega.{arith}
+use borrow.Author.Tests.{leb-true, ltb-true}
+use lib.Dec.{eqb, leb, ltb}
+use lib.ListN.{length, getD, take, drop, length-drop}
+use lib.Seq.{drop-drop}
+use Rattle.lists.proofs.Rules.{and-left, and-right}
+use Rattle.panel.specs.Registers.{dataLength}
+use Rattle.settings.specs.Settings.{Step, write, wait, malformed, hasPrefix, requiredData, writeOf, waitOf, stepOf, sizeOf, stepsOf, restOf, isStep, allSteps, isWriteTo, writesTo}
+use Rattle.settings.specs.Facts.{kindOf, kindSize, kindWritesTo}
+use Rattle.settings.specs.declared.Kind.{Kind}
+use Rattle.settings.specs.declared.Kind.the-variants.{Write, Wait}
+
+-- ---- what a step can be
+
+cond-case : (P : Step → Type 0) (b : Bool) (x y : Step) → (b ≡ true → P x) → P y → P (cond b x y)
+cond-case P true x y f g = f refl
+cond-case P false x y f g = g
+
+-- the step that s begins with is a write with its data, a wait of 1 to 1,000 ms, or malformed
+pub step-cases : (panel : ℕ) (s : List ℕ) (P : Step → Type 0)
+    → ((register n : ℕ) → n ≡ dataLength register → 0 < n → 2 + n ≤ length s → P (write register (take n (drop 2 s))))
+    → ((ms : ℕ) → 3 ≤ length s → 1 ≤ ms → ms ≤ 1000 → P (wait ms))
+    → P malformed
+    → P (stepOf panel s)
+unfolding stepOf writeOf waitOf
+step-cases panel s P ifWrite ifWait none =
+    let tag = getD s 0 0 in
+    let r = getD s 1 0 in
+    let n = dataLength r in
+    let ms = r * 256 + getD s 2 0 in
+    let within = leb n (length (drop 2 s)) in
+    let good = hasPrefix (drop 2 s) (requiredData panel r) in
+    let writes = cond (ltb 0 n && within && good) (write r (take n (drop 2 s))) malformed in
+    let waits = cond (eqb tag 0x44) (cond (leb 1 ms && leb ms 1000) (wait ms) malformed) malformed in
+    cond-case P (leb 3 (length s)) (cond (eqb tag 0x57) writes waits) malformed
+    (λ e.
+    let long : 3 ≤ length s = leb-true _ _ e in
+    cond-case P (eqb tag 0x57) writes waits
+    (λ t.
+    cond-case P (ltb 0 n && within && good) (write r (take n (drop 2 s))) malformed
+    (λ q.
+    let both = and-left (ltb 0 n && within) good q in
+    let fits : n ≤ length (drop 2 s) = leb-true _ _ (and-right (ltb 0 n) within both) in
+    ifWrite r n refl (ltb-true _ _ (and-left (ltb 0 n) within both)) (omega (arith, length-drop 2 s)))
+    none)
+    (cond-case P (eqb tag 0x44) (cond (leb 1 ms && leb ms 1000) (wait ms) malformed) malformed
+    (λ t.
+    cond-case P (leb 1 ms && leb ms 1000) (wait ms) malformed
+    (λ q.
+    ifWait ms long (leb-true _ _ (and-left (leb 1 ms) (leb ms 1000) q)) (leb-true _ _ (and-right (leb 1 ms) (leb ms 1000) q)))
+    none)
+    none))
+    none
+
+-- it lies within s
+pub size-fits : (panel : ℕ) (s : List ℕ) → sizeOf (stepOf panel s) ≤ length s
+size-fits panel s =
+    step-cases panel s (λ step. sizeOf step ≤ length s) (λ r n e some h. omega arith) (λ ms h low high. h) (omega arith)
+
+-- ---- a step and its kind
+
+kind-size : (step : Step) → kindSize (kindOf step) ≡ sizeOf step
+kind-size (write r d) = refl
+kind-size (wait ms) = refl
+kind-size malformed = refl
+
+kind-writes-to : (register : ℕ) (step : Step) → kindWritesTo register (kindOf step) ≡ isWriteTo register step
+kind-writes-to register (write r d) = refl
+kind-writes-to register (wait ms) = refl
+kind-writes-to register malformed = refl
+
+-- a step of which only the kind is known: a write has the bytes that follow its first two, a wait is 1 to 1,000 ms
+pub step-write : (panel register : ℕ) (s : List ℕ) → kindOf (stepOf panel s) ≡ Write register
+    → stepOf panel s ≡ write register (take (dataLength register) (drop 2 s))
+step-write panel register s =
+    step-cases panel s (λ step. kindOf step ≡ Write register → step ≡ write register (take (dataLength register) (drop 2 s)))
+    (λ r n e some h k. let q : r ≡ register = cc in rw (e, q))
+    (λ ms h low high k. absurd (let z : _≡_ {A = ℕ} 0 1 = cc in omega arith))
+    (λ k. absurd (let z : _≡_ {A = ℕ} 0 1 = cc in omega arith))
+
+pub step-wait : (panel ms : ℕ) (s : List ℕ) → kindOf (stepOf panel s) ≡ Wait ms
+    → (stepOf panel s ≡ wait ms) × (1 ≤ ms) × (ms ≤ 1000)
+step-wait panel ms s =
+    step-cases panel s (λ step. kindOf step ≡ Wait ms → (step ≡ wait ms) × (1 ≤ ms) × (ms ≤ 1000))
+    (λ r n e some h k. absurd (let z : _≡_ {A = ℕ} 0 1 = cc in omega arith))
+    (λ m h low high k. let q : m ≡ ms = cc in (rw q, omega arith, omega arith))
+    (λ k. absurd (let z : _≡_ {A = ℕ} 0 1 = cc in omega arith))
+
+size-none : (step : Step) → sizeOf step ≡ 0 → isStep step ≡ false
+size-none (write r d) e = absurd (let z : 2 + dataLength r ≡ 0 = e in omega arith)
+size-none (wait ms) e = absurd (let z : _≡_ {A = ℕ} 3 0 = e in omega arith)
+size-none malformed e = refl
+
+size-some : (step : Step) → (sizeOf step ≡ 0 → ⊥) → isStep step ≡ true
+size-some (write r d) e = refl
+size-some (wait ms) e = refl
+size-some malformed e = absurd (e refl)
+
+-- ---- lists of steps
+
+pub length-steps : (panel n : ℕ) (s : List ℕ) → length (stepsOf panel n s) ≡ n
+length-steps panel zero s = refl
+length-steps panel (suc n) s = ap suc (length-steps panel n (drop (sizeOf (stepOf panel s)) s))
+
+-- past k steps
+pub drop-steps : (panel k n : ℕ) (s : List ℕ) → k ≤ n → drop k (stepsOf panel n s) ≡ stepsOf panel (n - k) (restOf panel k s)
+drop-steps panel zero n s h = rw sub-zero
+drop-steps panel (suc k) zero s h = absurd (omega arith)
+drop-steps panel (suc k) (suc n) s h = drop-steps panel k n (drop (sizeOf (stepOf panel s)) s) (omega arith) ∙ rw suc-sub-suc
+
+steps-next : (panel n : ℕ) (s : List ℕ) → 0 < n
+    → stepsOf panel n s ≡ stepOf panel s ∷ stepsOf panel (n - 1) (drop (sizeOf (stepOf panel s)) s)
+steps-next panel zero s h = absurd (omega arith)
+steps-next panel (suc n) s h = rw sub-one
+
+rest-next : (panel n : ℕ) (s : List ℕ) → 0 < n → restOf panel n s ≡ restOf panel (n - 1) (drop (sizeOf (stepOf panel s)) s)
+rest-next panel zero s h = absurd (omega arith)
+rest-next panel (suc n) s h = rw sub-one
+
+rest-stuck : (panel n : ℕ) (s : List ℕ) → sizeOf (stepOf panel s) ≡ 0 → restOf panel n s ≡ s
+rest-stuck panel zero s h = refl
+rest-stuck panel (suc n) s h = rw h (rest-stuck panel n s h)
+
+-- one turn of a loop over n steps, at index `at` of a file: the step's kind, and z, its size
+pub record Turn (panel : ℕ) (file : List ℕ) (at n : ℕ) (kind : Kind) (z : ℕ) : Type 0 where
+  pub more : 0 < n
+  pub read : kind ≡ kindOf (stepOf panel (drop at file))
+  pub size : z ≡ kindSize kind
+
+module _ {panel : ℕ} {file : List ℕ} {at n : ℕ} {kind : Kind} {z : ℕ} (turn : Turn panel file at n kind z) where
+  pub sized : z ≡ sizeOf (stepOf panel (drop at file))
+  sized = turn .size ∙ ap kindSize (turn .read) ∙ kind-size (stepOf panel (drop at file))
+
+  pub next-fits : at ≤ length file → at + z ≤ length file
+  next-fits h = omega (arith, sized, size-fits panel (drop at file), length-drop at file)
+
+  pub next-steps : stepsOf panel n (drop at file) ≡ stepOf panel (drop at file) ∷ stepsOf panel (n - 1) (drop (at + z) file)
+  next-steps = steps-next panel n (drop at file) (turn .more) ∙ rw (drop-drop, ← sized)
+
+  pub next-rest : restOf panel n (drop at file) ≡ restOf panel (n - 1) (drop (at + z) file)
+  next-rest = rest-next panel n (drop at file) (turn .more) ∙ rw (drop-drop, ← sized)
+
+  pub next-all : (z ≡ 0 → ⊥) → allSteps (stepsOf panel n (drop at file)) ≡ allSteps (stepsOf panel (n - 1) (drop (at + z) file))
+  next-all h = rw (next-steps, size-some (stepOf panel (drop at file)) (λ q. h (sized ∙ q)))
+
+  pub stuck-all : z ≡ 0 → allSteps (stepsOf panel n (drop at file)) ≡ false
+  stuck-all h = rw (next-steps, size-none (stepOf panel (drop at file)) (sym sized ∙ h))
+
+  pub stuck-rest : z ≡ 0 → restOf panel n (drop at file) ≡ drop at file
+  stuck-rest h = rest-stuck panel n (drop at file) (sym sized ∙ h)
+
+  -- whether this step writes a register
+  pub writes-here : (register : ℕ) {b : Bool} → b ≡ kindWritesTo register kind → isWriteTo register (stepOf panel (drop at file)) ≡ b
+  writes-here register w = sym (w ∙ ap (kindWritesTo register) (turn .read) ∙ kind-writes-to register (stepOf panel (drop at file)))
+
+  pub next-writes : (register : ℕ) → isWriteTo register (stepOf panel (drop at file)) ≡ false
+      → writesTo register (stepsOf panel n (drop at file)) ≡ writesTo register (stepsOf panel (n - 1) (drop (at + z) file))
+  next-writes register h = rw (next-steps, h)
+
+  pub first-writes : (register : ℕ) → isWriteTo register (stepOf panel (drop at file)) ≡ true
+      → writesTo register (stepsOf panel n (drop at file)) ≡ true
+  first-writes register h = rw (next-steps, h)

@@ -1,0 +1,77 @@
+-- How the code's values stand for those of the definitions.
+-- Assumes nothing.
+use Prim.Native.Nat.{ℕ, _+_, _≤_, _<_, _^_}
+use mathlib.Core.Path.{_≡_}
+use mathlib.Core.Bool.{Bool, true, false}
+use mathlib.Core.List.{List}
+use lib.Dec.{eqb}
+use lib.ListN.{length, take, drop}
+use Rattle.lists.specs.Rules.{every}
+use Rattle.panel.specs.Registers.{dataLength}
+use Rattle.settings.specs.Settings.{Step, write, wait, malformed, stepsOf, restOf, allSteps, panelOf, stopSection, settingsRules, settingsGood}
+use Rattle.settings.specs.Steps.{waitsBefore, fromWrite}
+use Rattle.settings.specs.declared.Kind.{Kind}
+use Rattle.settings.specs.declared.Kind.the-variants.{Write, Wait, Malformed}
+use Rattle.settings.specs.declared.StepsEnd.{StepsEnd}
+use Rattle.settings.specs.declared.Layout.{Layout}
+use Rattle.settings.specs.declared.NextWrite.{NextWrite}
+
+-- a step without its data, which stand in the file
+abbrev pub kindOf : Step → Kind
+kindOf (write register bytes) = Write register
+kindOf (wait ms) = Wait ms
+kindOf malformed = Malformed
+
+abbrev pub kindSize : Kind → ℕ
+kindSize (Write register) = 2 + dataLength register
+kindSize (Wait ms) = 3
+kindSize Malformed = 0
+
+abbrev pub kindWritesTo : (register : ℕ) → Kind → Bool
+kindWritesTo register (Write r) = eqb r register
+kindWritesTo register (Wait ms) = false
+kindWritesTo register Malformed = false
+
+-- n steps from index `at` on were passed
+pub record StepsPassed (panel n at : ℕ) (file : List ℕ) (r : StepsEnd) : Type 0 where
+  pub good : r .ok ≡ allSteps (stepsOf panel n (drop at file))
+  pub within : r .end ≤ length file
+  pub rest : drop (r .end) file ≡ restOf panel n (drop at file)
+
+-- the rules in three parts: those up to the count of the start steps, those of the start steps, and the others
+abbrev pub headRules : (file : List ℕ) → List Bool
+headRules file = take 5 (settingsRules file)
+
+abbrev pub startRules : (file : List ℕ) → List Bool
+startRules file = take 3 (drop 5 (settingsRules file))
+
+abbrev pub stopRules : (file : List ℕ) → List Bool
+stopRules file = drop 8 (settingsRules file)
+
+-- a file whose steps can be read
+pub record Readable (file : List ℕ) : Type 0 where
+  pub long : 3 ≤ length file
+  pub panel : panelOf file < 3
+
+-- the index at which the stop section of a file begins
+pub record StopAt (file : List ℕ) (stop : ℕ) : Type 0 where
+  pub within : stop ≤ length file
+  pub rest : drop stop file ≡ stopSection file
+
+-- whether the start steps keep their rules, and where the stop section begins
+pub record StartPassed (file : List ℕ) (r : StepsEnd) : Type 0 where
+  pub good : r .ok ≡ every (startRules file)
+  pub stop : r .ok ≡ true → StopAt file (r .end)
+
+-- whether a file is accepted, and where its stop section begins
+pub record LaidOut (file : List ℕ) (r : Layout) : Type 0 where
+  pub good : r .ok ≡ settingsGood file
+  pub stop : r .ok ≡ true → (r .stop < length file) × (drop (r .stop) file ≡ stopSection file)
+
+-- the next write among the steps: the waits before it, where it stands in the file, and how many steps are left from it on
+pub record Found (panel : ℕ) (file : List ℕ) (steps : List Step) (r : NextWrite) : Type 0 where
+  pub waits : r .waits ≡ waitsBefore steps
+  pub rest : stepsOf panel (r .left) (drop (r .at) file) ≡ fromWrite steps
+  pub within : r .at ≤ length file
+  pub small : r .waits < 2 ^ 24
+  pub few : r .left ≤ length steps

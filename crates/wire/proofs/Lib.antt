@@ -1,0 +1,12 @@
+-- Laws of lists that are laid over others in turn.
+pub mod Overlays
+-- A byte of a line is four joined codes, and comes from one picture byte.
+pub mod Bytes
+-- What the three loops leave is a line, and its length.
+pub mod Line
+-- What `inRange` says, as facts, and the ways out of the line builder.
+pub mod Builder
+-- A line that was handed out, read back: what it pushes each dot.
+pub mod Reading
+-- Document 01's worked example of a line.
+pub mod Examples

@@ -1,0 +1,17 @@
+#!/bin/sh
+# Makes the kept pictures again. Needs python3-pil and netpbm; run from the repository's root.
+# The tests do not need it: the files it makes are kept.
+set -e
+PYTHON=${PYTHON:-python3} # the one that has Pillow
+cd tests/bitmaps
+
+make_one() {
+    "$PYTHON" picture.py "$2" "$3" > "$1.pbm"
+    "$PYTHON" -c 'import sys; from PIL import Image; Image.open(sys.argv[1]).save(sys.argv[2])' \
+        "$1.pbm" "$1.pillow.bmp"
+    ppmtobmp -quiet -windows -bpp=1 "$1.pbm" > "$1.netpbm.bmp"
+}
+
+make_one panel_1_44 128 96
+make_one panel_2_0 200 96
+make_one panel_2_7 264 176

@@ -1,0 +1,79 @@
+"""A second, plain reader and writer of the panels' bitmap files, written from the rules.
+
+By hand: python3 tests/bitmaps/reference.py < FILE.bmp > NORMAL.bmp
+"""
+import sys
+
+REFUSED = b"refused 4\n"
+
+# name: (X, Y, stride)
+PANELS = {
+    "1.44": (128, 96, 16),
+    "2": (200, 96, 28),
+    "2.7": (264, 176, 36),
+}
+HEADER = 62
+
+
+def file_length(panel):
+    _, height, stride = PANELS[panel]
+    return HEADER + height * stride
+
+
+def panel_of(length):
+    """The panel whose files have this length, or None."""
+    for panel in PANELS:
+        if file_length(panel) == length:
+            return panel
+    return None
+
+
+def number(file, at, n):
+    return int.from_bytes(file[at:at + n], "little")
+
+
+def read(panel, file):
+    """The picture: rows from the top, each X/8 bytes, a 1 is white. None if a rule is broken."""
+    width, height, stride = PANELS[panel]
+    if len(file) != file_length(panel):
+        return None
+    if file[0:2] != b"BM":
+        return None
+    wanted = [(2, 4, len(file)), (6, 4, 0), (10, 4, 62), (14, 4, 40), (18, 4, width), (22, 4, height),
+              (26, 2, 1), (28, 2, 1), (30, 4, 0)]
+    for at, n, value in wanted:
+        if number(file, at, n) != value:
+            return None
+    if number(file, 34, 4) not in (0, height * stride):
+        return None
+    if number(file, 46, 4) not in (0, 2):
+        return None
+    rows = []
+    for row in range(height):
+        at = HEADER + (height - 1 - row) * stride  # the bottom row comes first
+        rows.append(file[at:at + width // 8])
+    return rows
+
+
+def write(panel, rows):
+    """The normal form of a picture's file."""
+    width, height, stride = PANELS[panel]
+    length = file_length(panel)
+    header = b"BM"
+    for n, value in [(4, length), (4, 0), (4, 62), (4, 40), (4, width), (4, height), (2, 1), (2, 1), (4, 0),
+                     (4, height * stride), (4, 0), (4, 0), (4, 0), (4, 0)]:
+        header += value.to_bytes(n, "little")
+    header += bytes.fromhex("00000000 FFFFFF00")
+    body = b"".join(row + bytes(stride - len(row)) for row in reversed(rows))
+    return header + body
+
+
+def normal(file):
+    """What the program writes for this input."""
+    panel = panel_of(len(file))
+    rows = None if panel is None else read(panel, file)
+    return REFUSED if rows is None else write(panel, rows)
+
+
+if __name__ == "__main__":
+    sys.stdout.buffer.write(normal(sys.stdin.buffer.read()))

@@ -1,0 +1,237 @@
+"""Compares the program that lists a settings file with reference.py.
+
+Usage, from the repository's root: python3 tests/listing/compare.py target/bin/settings_list
+"""
+import pathlib
+import random
+import re
+import sys
+
+sys.dont_write_bytecode = True
+HERE = pathlib.Path(__file__).resolve().parent
+sys.path.insert(0, str(HERE.parent))
+from program import Comparison, path_argument  # noqa: E402
+from reference import DATA_LENGTH, PANELS, REFUSED, listing  # noqa: E402
+
+MEGABYTE = 1 << 20
+LONGEST_FILE = 637
+
+# The one example whose text the rules give in full.
+EXAMPLE = bytes.fromhex("01 00 02 57 01 00 00 00 00 00 0F FF 00 57 04 03 01 44 00 0F")
+EXAMPLE_TEXT = b"""\
+panel 1.44
+start 2
+write 01 00 00 00 00 00 0F FF 00
+write 04 03
+stop 1
+wait 15
+"""
+
+# Two more, typed by hand.
+OTHERS = [
+    (bytes.fromhex("01 01 03 57 04 03 44 03 E8 57 01 00 00 00 00 01 FF E0 00 00"),
+     b"panel 2\nstart 3\nwrite 04 03\nwait 1000\nwrite 01 00 00 00 00 01 FF E0 00\nstop 0\n"),
+    (bytes.fromhex("01 02 02 57 01 00 00 00 7F FF FE 00 00 57 04 00 03 57 09 D0 0A 44 00 01 57 02 2F"),
+     b"panel 2.7\nstart 2\nwrite 01 00 00 00 7F FF FE 00 00\nwrite 04 00\n"
+     b"stop 3\nwrite 09 D0 0A\nwait 1\nwrite 02 2F\n"),
+]
+
+
+def write(panel, register, rng=None):
+    _, channel, gate_source = PANELS[panel]
+    if register == 0x01:
+        data = channel
+    elif register == 0x04:
+        data = gate_source
+    else:
+        data = rng.randbytes(DATA_LENGTH[register])
+    return bytes([0x57, register]) + data
+
+
+def step(panel, rng):
+    if rng.random() < 0.35:
+        return b"\x44" + rng.randint(1, 1000).to_bytes(2, "big")
+    return write(panel, rng.randint(1, 9), rng)
+
+
+def good_file(rng):
+    panel = rng.randrange(3)
+    start = [write(panel, 0x01), write(panel, 0x04)]
+    start += [step(panel, rng) for _ in range(rng.choice([0, 1, 3, rng.randint(0, 30), 30]))]
+    rng.shuffle(start)
+    stop = [step(panel, rng) for _ in range(rng.choice([0, 1, 2, rng.randint(0, 32), 32]))]
+    return (bytes([1, panel, len(start)]) + b"".join(start)
+            + bytes([len(stop)]) + b"".join(stop))
+
+
+def longest_file(panel, place=31):
+    """637 bytes: 63 writes of 0x01 and one of 0x04, which is start step number place."""
+    start = [write(panel, 0x01)] * 32
+    start[place] = write(panel, 0x04)
+    return bytes([1, panel, 32]) + b"".join(start) + bytes([32]) + write(panel, 0x01) * 32
+
+
+def damaged(file, rng):
+    at = rng.randrange(len(file))
+    return file[:at] + bytes([file[at] ^ rng.randint(1, 255)]) + file[at + 1:]
+
+
+def longest_listing():
+    """The most bytes that the listing of a good file can have, by trying all kinds of steps.
+
+    A table over the steps of a section keeps, for the bytes used in the file and for whether 0x01
+    and 0x04 were written, the longest text so far.
+    """
+    kinds = [(2 + n, len("write 00\n") + 3 * n, register) for register, n in DATA_LENGTH.items()]
+    kinds.append((3, len("wait 1000\n"), 0))
+
+    def sections(most):
+        table = {(0, False, False): 0}
+        yield 0, table
+        for count in range(1, most + 1):
+            longer = {}
+            for (used, has_01, has_04), text in table.items():
+                for file_bytes, text_bytes, register in kinds:
+                    key = (used + file_bytes, has_01 or register == 1, has_04 or register == 4)
+                    longer[key] = max(longer.get(key, 0), text + text_bytes)
+            table = longer
+            yield count, table
+
+    def best(name, tables, least, complete):
+        """For each number of file bytes the longest text of the section, its first line included."""
+        found = {}
+        for count, table in tables:
+            for (used, has_01, has_04), text in table.items():
+                if count >= least and (not complete or (has_01 and has_04)):
+                    text += len(f"{name} {count}\n")
+                    found[used] = max(found.get(used, 0), text)
+        return found
+
+    start = best("start", sections(32), 2, True)
+    stop = best("stop", sections(32), 0, False)
+    name = max(len(f"panel {PANELS[panel][0]}\n") for panel in PANELS)
+    return max(name + a_text + b_text for a, a_text in start.items() for b, b_text in stop.items()
+               if 4 + a + b <= LONGEST_FILE)
+
+
+def limit_files():
+    """The table of limits.inc for each panel: name, file, whether it is good."""
+    text = (HERE.parent / "limits.inc").read_text(encoding="ascii")
+    rows = re.findall(r'^LIMIT\((\d), "([^"]*)", "([^"]*)"\)$', text, re.MULTILINE)
+    if len(rows) != text.count("\nLIMIT("):
+        sys.exit("limits.inc has a line of another form")
+    for number, tokens, what in rows:
+        for panel in PANELS:
+            yield f"{what}, panel {panel}", from_tokens(tokens, panel), number == "0"
+
+
+def from_tokens(tokens, panel):
+    other = (panel + 1) % 3
+    useless = b"\x00" if PANELS[panel][2] == b"\x03" else b"\x03"
+    letters = {
+        "P": bytes([panel]),
+        "Q": bytes([other]),
+        "A": write(panel, 0x01),
+        "a": write(other, 0x01),
+        "G": write(panel, 0x04),
+        "g": b"\x57\x04" + useless,
+    }
+
+    def one(token):
+        return letters[token] if token in letters else bytes.fromhex(token)
+
+    form = r"(?:\(([^)]*)\)|([0-9A-F]{2}|[PQAaGg]))(?:\*(\d+))?(?: |$)"
+    if re.sub(form, "", tokens):
+        sys.exit(f"limits.inc: {tokens}")
+    file = b""
+    for bracket, token, times in re.findall(form, tokens):
+        piece = b"".join(one(t) for t in bracket.split()) if bracket else one(token)
+        file += piece * int(times or 1)
+    return file
+
+
+def main():
+    comparison = Comparison(path_argument())
+    rng = random.Random(17)
+
+    def check(name, file, by="pipe"):
+        return comparison.check(name, file, listing(file), by)
+
+    def check_refused(name, file, by="pipe"):
+        if listing(file) != REFUSED:
+            comparison.fail(f"the reference takes: {name}")
+        check(name, file, by)
+
+    # Typed by hand, and the reference with them.
+    for name, file, text in [("the example", EXAMPLE, EXAMPLE_TEXT),
+                             ("typed by hand, 1", *OTHERS[0]), ("typed by hand, 2", *OTHERS[1])]:
+        if listing(file) != text:
+            comparison.fail(f"the reference lists differently: {name}")
+        for by in ("pipe", "file", 1, 7):
+            comparison.check(name, file, text, by)
+
+    # Limits.
+    for name, file, good in limit_files():
+        if (listing(file) != REFUSED) != good:
+            comparison.fail(f"the reference answers differently: {name}")
+        check(name, file)
+
+    # The longest files, and the longest listing.
+    for panel in PANELS:
+        for place in (0, 1, 16, 31):
+            file = longest_file(panel, place)
+            if len(file) != LONGEST_FILE:
+                comparison.fail(f"the longest file has {len(file)} bytes")
+            check(f"longest file, panel {panel}, 0x04 at {place}", file)
+    for by in ("file", 1, 100, 636):
+        check(f"longest file, by {by}", longest_file(0), by)
+    text = check("longest listing", longest_file(0))
+    longest = longest_listing()
+    if len(listing(longest_file(0))) != longest:
+        comparison.fail(f"the longest listing has {longest} bytes, not {len(listing(longest_file(0)))}")
+    print(f"longest listing: {longest} bytes, written {len(text)} (panel 1.44, 32 start and 32 stop steps, "
+          "63 writes of 0x01 and one of 0x04, a file of 637 bytes)")
+
+    # Good, damaged, cut and extended files.
+    for i in range(150):
+        check(f"good file {i}", good_file(rng))
+    for i in range(150):
+        check(f"damaged file {i}", damaged(good_file(rng), rng))
+    for at in range(len(EXAMPLE)):
+        check_refused(f"example cut at {at}", EXAMPLE[:at])
+    file = OTHERS[1][0]
+    for at in range(len(file)):
+        check_refused(f"file cut at {at}", file[:at])
+    for at in rng.sample(range(LONGEST_FILE), 30):
+        check_refused(f"longest file cut at {at}", longest_file(at % 3)[:at])
+    for i in range(30):
+        check_refused(f"extended file {i}", good_file(rng) + rng.randbytes(rng.randint(1, 40)))
+
+    # Waits of one to four digits, and data bytes.
+    for ms in (1, 2, 9, 10, 11, 19, 20, 99, 100, 101, 109, 110, 200, 255, 256, 257, 500, 512, 900, 909, 990,
+               999, 1000):
+        check(f"wait {ms}", EXAMPLE[:-2] + ms.to_bytes(2, "big"))
+    for ms in (0, 1001, 1024, 10000, 65535):
+        check_refused(f"wait {ms}", EXAMPLE[:-2] + ms.to_bytes(2, "big"))
+    for data in range(0, 256, 5):
+        check(f"data {data:02X}", EXAMPLE[:-4] + bytes([1, 0x57, 0x05, data]))
+
+    # Long inputs and none.
+    check_refused("no input", b"")
+    check_refused("no input, as a file", b"", "file")
+    for length in (638, 639, 640, 641, 1023, 1024, 1025, 4095, 4096, 4097, 8192, 65535, 65536, 65536 + 637,
+                   MEGABYTE):
+        check_refused(f"longest file and zeros, {length} bytes", longest_file(2).ljust(length, b"\0"))
+        check_refused(f"example and zeros, {length} bytes", EXAMPLE.ljust(length, b"\0"))
+    check_refused("a megabyte from a file", longest_file(1).ljust(MEGABYTE, b"\0"), "file")
+    check_refused("a megabyte in pieces", longest_file(1).ljust(MEGABYTE, b"\0"), 10007)
+    check_refused("a megabyte of the example", (EXAMPLE * MEGABYTE)[:MEGABYTE])
+    check_refused("a megabyte of steps", (longest_file(0)[:-1] + write(0, 1) * MEGABYTE)[:MEGABYTE])
+    check_refused("a megabyte of random bytes", rng.randbytes(MEGABYTE))
+    check_refused("a megabyte of zeros", bytes(MEGABYTE))
+
+    sys.exit(comparison.summary("settings_list", 600))
+
+
+if __name__ == "__main__":
+    main()
