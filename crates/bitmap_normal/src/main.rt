@@ -22,13 +22,20 @@ fn normalize(b: usize, h: usize, s: usize, file: &[u8], picture: &mut [u8], out:
     bitmap::write_bitmap(b, h, s, picture, out)
 }
 
+// Room for the largest picture.
+fn largest_picture() -> [u8; 5808]
+    ensures { λ r. ⌜ 5808 ≡ length r ⌝ }
+{
+    [0; 5808]
+}
+
 // The same for a panel, with room for the largest picture and file.
 fn normalize_for(panel: usize, file: &[u8], out: &mut [u8]) -> usize
     requires { ⌜ (panel < 3) × (6398 ≤ length (now out)) ⌝ }
     ensures { λ r. ⌜ (r ≤ 6398)
         × ((r, now (out .exit)) ≡ normalized (rowBytesOf panel) (rowsOf panel) (strideOf panel) (now (file .entry)) (now (out .entry))) ⌝ }
 {
-    let mut room = [0u8; 5808];
+    let mut room = largest_picture();
     let picture: &mut [u8] = &mut room;
     let b = panel::row_bytes(panel);
     let h = panel::rows(panel);
@@ -49,10 +56,17 @@ fn panel_for(len: usize) -> usize
     2
 }
 
+// Room for the longest file.
+fn largest_file() -> [u8; 6398]
+    ensures { λ r. ⌜ 6398 ≡ length r ⌝ }
+{
+    [0; 6398]
+}
+
 fn main() {
     // One byte more than the longest file: a longer input fills it, and no file has this length.
     let mut file = [0u8; 6399];
-    let mut out = [0u8; 6398];
+    let mut out = largest_file();
     let n = io::read_full(STDIN_FILENO, &mut file);
     let len = normalize_for(panel_for(n), &file[..n], &mut out);
     if len == 0 {

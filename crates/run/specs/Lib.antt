@@ -3,3 +3,4 @@ pub mod Clock
 pub mod Place
 pub mod Due
 pub mod Conditions
+pub mod Facts

@@ -3,12 +3,15 @@ ghost use mathlib.Core.Path.{_≡_};
 ghost use Prim.Native.Nat.{_+_, _-_, _*_, _^_, _≤_, _<_};
 ghost use mathlib.Core.Bool.{true};
 ghost use lib.ListN.{length, drop};
-ghost use Rattle.panel.specs.Panels.{rowsOf, framesOf};
-ghost use Rattle.settings.specs.Settings.{panelOf};
+ghost use mathlib.Core.Bool.{cond};
+ghost use lib.Dec.{eqb, leb};
+ghost use Rattle.settings.specs.Settings.{stepsOf, settingsGood};
 ghost use Rattle.run.specs.Clock.{stepFrom, readingOf};
 ghost use Rattle.run.specs.Place.{frameNumber, nextPosition};
-ghost use Rattle.run.specs.Due.{dueOf};
-ghost use Rattle.run.specs.Conditions.{placeValid, runValid};
+ghost use Rattle.run.specs.Due.{frameDue, dueAt, dueOf};
+ghost use Rattle.run.specs.Conditions.{afterWrite, placeValid, runValid};
+ghost use Rattle.run.specs.Facts.{kindIsWrite, Accepted, Ready};
+use settings::Kind;
 
 // A tick reading: a millisecond counter that wraps.
 pub struct Tick(pub u32);
@@ -80,4 +83,221 @@ pub fn next_position(rows: u32, frames: u32, stage: u32, frame: u32, row: u32) -
         return Position::Line { stage: stage + 1, frame: 0, row: 0 };
     }
     Position::Stop(0)
+}
+
+// ---- when the next thing is due
+
+// The number of a frame, counted over the whole run.
+fn frame_number(frames: u32, stage: u32, frame: u32) -> u32
+    requires { ⌜ (1 ≤ stage) × (stage ≤ 4) × (frame < frames) × (frames ≤ 21) ⌝ }
+    ensures { λ r. ⌜ (r ≡ frameNumber frames stage frame) × (r < 84) ⌝ }
+{
+    (stage - 1) * frames + frame
+}
+
+// The ms still to go at a moment until `ms` after an earlier one.
+fn remaining(from: Passed, ms: u32, moment: Passed) -> u32
+    requires { ⌜ from .0 ≤ moment .0 ⌝ }
+    ensures { λ r. ⌜ r ≡ from .0 + ms - moment .0 ⌝ }
+{
+    let gone = moment.0 - from.0;
+    if (ms as u64) <= gone {
+        return 0;
+    }
+    ms - (gone as u32)
+}
+
+// From start step k on.
+fn start_to_go(file: &[u8], run: Run, k: u32, moment: Passed) -> u32
+    requires { ⌜ (settingsGood (now file) ≡ true) × (Ready (now file) run (Position.Start k) moment) ⌝ }
+    ensures { λ r. ⌜ r ≡ dueAt (now (file .entry)) run (Position.Start k) - moment .0 ⌝ }
+{
+    let handed = run.handed;
+    let n = file[2] as usize;
+    let found = settings::next_write_from(file, settings::panel_of(file), 3, n, k as usize);
+    remaining(handed, found.waits, moment)
+}
+
+// At a line: the first of a frame waits for its moment.
+fn line_to_go(file: &[u8], run: Run, stage: u32, frame: u32, row: u32, moment: Passed) -> u32
+    requires { ⌜ (settingsGood (now file) ≡ true) × (Ready (now file) run (Position.Line stage frame row) moment) ⌝ }
+    ensures { λ r. ⌜ r ≡ dueAt (now (file .entry)) run (Position.Line stage frame row) - moment .0 ⌝ }
+{
+    if row != 0 {
+        return 0;
+    }
+    let first = run.first;
+    let frames = panel::frames(settings::panel_of(file));
+    remaining(first, 30 * frame_number(frames, stage, frame), moment)
+}
+
+// From stop step k on: the waits count from the end of the last frame and from what was handed out last.
+fn stop_to_go(file: &[u8], stop: usize, run: Run, k: u32, moment: Passed) -> u32
+    requires { ⌜ (Accepted (now file) stop) × (Ready (now file) run (Position.Stop k) moment) ⌝ }
+    ensures { λ r. ⌜ r ≡ dueAt (now (file .entry)) run (Position.Stop k) - moment .0 ⌝ }
+{
+    let handed = run.handed;
+    let first = run.first;
+    let panel = settings::panel_of(file);
+    let n = file[stop] as usize;
+    let found = settings::next_write_from(file, panel, stop + 1, n, k as usize);
+    let by_frames = remaining(first, 120 * panel::frames(panel) + found.waits, moment);
+    let by_handed = remaining(handed, found.waits, moment);
+    if by_frames < by_handed {
+        return by_handed;
+    }
+    by_frames
+}
+
+// The ms still to go at a moment until the next thing is due; 0 where it is due.
+pub fn to_go(file: &[u8], stop: usize, run: Run, moment: Passed) -> u32
+    requires { ⌜ (Accepted (now file) stop) × (Ready (now file) run (run .next) moment) ⌝ }
+    ensures { λ r. ⌜ r ≡ dueOf (now (file .entry)) run - moment .0 ⌝ }
+{
+    let next = run.next;
+    match next {
+        Position::Start(k) => start_to_go(file, run, k, moment),
+        Position::Line { stage, frame, row } => line_to_go(file, run, stage, frame, row, moment),
+        Position::Stop(k) => stop_to_go(file, stop, run, k, moment),
+    }
+}
+
+// ---- the conditions on a run
+
+fn is_write(kind: Kind) -> bool
+    ensures { λ r. ⌜ r ≡ kindIsWrite kind ⌝ }
+{
+    match kind {
+        Kind::Write(_) => true,
+        Kind::Wait(_) => false,
+        Kind::Malformed => false,
+    }
+}
+
+// Whether step k of n is the first one, or stands right after a write; the steps stand from index `at` on.
+fn after_write(file: &[u8], panel: usize, at: usize, n: usize, k: usize) -> bool
+    requires { ⌜ (panel < 3) × (at ≤ length (now file)) × (k ≤ n) ⌝ }
+    ensures { λ r. ⌜ r ≡ afterWrite (stepsOf panel n (drop at (now (file .entry)))) k ⌝ }
+{
+    if k == 0 {
+        return true;
+    }
+    let passed = settings::pass_steps(file, panel, at, k - 1);
+    let end = passed.end;
+    is_write(settings::step_at(file, end, panel))
+}
+
+// Whether frame i was due by a moment.
+fn frame_due_by(first: Passed, i: u32, moment: Passed) -> bool
+    requires { ⌜ i ≤ 84 ⌝ }
+    ensures { λ r. ⌜ r ≡ leb (frameDue (first .0) i) (moment .0) ⌝ }
+{
+    if moment.0 < first.0 {
+        return false;
+    }
+    (30 * i) as u64 <= moment.0 - first.0
+}
+
+// The frame of what stands before the first thing (number 0) or a later thing of frame i.
+fn frame_before(i: u32, number: u32) -> u32
+    requires { ⌜ 0 < i + number ⌝ }
+    ensures { λ r. ⌜ r ≡ i - cond (eqb number 0) 1 0 ⌝ }
+{
+    if number == 0 {
+        return i - 1;
+    }
+    i
+}
+
+fn start_valid(file: &[u8], run: Run, k: u32) -> bool
+    requires { ⌜ settingsGood (now file) ≡ true ⌝ }
+    ensures { λ r. ⌜ r ≡ placeValid (now (file .entry)) run (Position.Start k) ⌝ }
+{
+    let n = file[2] as usize;
+    if n < k as usize {
+        return false;
+    }
+    if !after_write(file, settings::panel_of(file), 3, n, k as usize) {
+        return false;
+    }
+    if run.first.0 != 0 {
+        return false;
+    }
+    if k == 0 {
+        return run.handed.0 == 0;
+    }
+    true
+}
+
+fn line_valid(file: &[u8], run: Run, stage: u32, frame: u32, row: u32) -> bool
+    requires { ⌜ settingsGood (now file) ≡ true ⌝ }
+    ensures { λ r. ⌜ r ≡ placeValid (now (file .entry)) run (Position.Line stage frame row) ⌝ }
+{
+    let first = run.first;
+    let handed = run.handed;
+    let panel = settings::panel_of(file);
+    let frames = panel::frames(panel);
+    if stage < 1 {
+        return false;
+    }
+    if 4 < stage {
+        return false;
+    }
+    if frames <= frame {
+        return false;
+    }
+    if panel::rows(panel) <= row as usize {
+        return false;
+    }
+    let i = frame_number(frames, stage, frame);
+    if i + row == 0 {
+        return false;
+    }
+    frame_due_by(first, frame_before(i, row), handed)
+}
+
+fn stop_valid(file: &[u8], stop: usize, run: Run, k: u32) -> bool
+    requires { ⌜ Accepted (now file) stop ⌝ }
+    ensures { λ r. ⌜ r ≡ placeValid (now (file .entry)) run (Position.Stop k) ⌝ }
+{
+    let first = run.first;
+    let handed = run.handed;
+    let panel = settings::panel_of(file);
+    let n = file[stop] as usize;
+    if n < k as usize {
+        return false;
+    }
+    if !after_write(file, panel, stop + 1, n, k as usize) {
+        return false;
+    }
+    frame_due_by(first, frame_before(4 * panel::frames(panel), k), handed)
+}
+
+fn place_valid(file: &[u8], stop: usize, run: Run) -> bool
+    requires { ⌜ Accepted (now file) stop ⌝ }
+    ensures { λ r. ⌜ r ≡ placeValid (now (file .entry)) run (run .next) ⌝ }
+{
+    let next = run.next;
+    match next {
+        Position::Start(k) => start_valid(file, run, k),
+        Position::Line { stage, frame, row } => line_valid(file, run, stage, frame, row),
+        Position::Stop(k) => stop_valid(file, stop, run, k),
+    }
+}
+
+// Whether a run keeps the conditions, where there are slots 1 to `slots`.
+pub fn run_valid(file: &[u8], stop: usize, slots: u32, run: Run) -> bool
+    requires { ⌜ Accepted (now file) stop ⌝ }
+    ensures { λ r. ⌜ r ≡ runValid (now (file .entry)) slots run ⌝ }
+{
+    if run.slot < 1 {
+        return false;
+    }
+    if slots < run.slot {
+        return false;
+    }
+    if run.passed.0 < run.handed.0 {
+        return false;
+    }
+    place_valid(file, stop, run)
 }

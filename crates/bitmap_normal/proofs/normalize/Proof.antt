@@ -1,39 +1,46 @@
+-- A good file is read and written again.
+-- Assumes nothing.
+use mathlib.Core.Path.{_≡_, sym, _∙_}
+use native.Mathlib.Omega.{arith}
+use borrow.Author.Tests.{not-true, not-false}
+use Rattle.bitmap_normal.proofs.Normal.{good-length, refused, rewritten}
 use borrow.Author.Needs.{needs}
 use Rattle.bitmap_normal.proofs.normalize.Statement.{statement}
 use Rattle.bitmap_normal.proofs.normalize.Tie as tie
-use Rattle.bitmap_normal.proofs.normalize.Reads as reads
-use Rattle.bitmap_normal.proofs.normalize.Lts as lts
-use Rattle.bitmap.proofs.bitmap_good.Reads as bitmap-good-reads
-use Rattle.bitmap.proofs.read_bitmap.Reads as read-bitmap-reads
-use Rattle.bitmap.proofs.write_bitmap.Reads as write-bitmap-reads
 
--- src/main.rt:18:9
 bitmap-good-requires : tie.Need-bitmap-good-requires
 bitmap-good-requires c κs = search needs
 
--- src/main.rt:19:9
 returns : tie.Need-returns
-returns c = ?
+returns c = 
+    let a = c .before .before .before .before .before .args in
+    refused (a .b) (a .h) (a .s) (c .before .before .before .before .before .pre .0) (c .before .before .before .before .before .pre .2) (a .file .now) (a .out .now) (sym (c .before .bitmap-good .ensures) ∙ not-true _ (c .if1 .taken))
 
--- src/main.rt:21:5
 read-bitmap-requires : tie.Need-read-bitmap-requires
-read-bitmap-requires c κs = ?
+read-bitmap-requires c κs = 
+    let a = c .before .before .before .before .before .before .args in
+    let p = c .before .before .before .before .before .before .pre in
+    let l = good-length (a .b) (a .h) (a .s) (a .file .now) (sym (c .before .before .bitmap-good .ensures) ∙ not-false _ (c .before .if1 .left)) in
+    (p .0, p .1, p .2, p .3, p .4, p .5, omega (arith, l))
 
--- src/main.rt:22:5
 write-bitmap-requires : tie.Need-write-bitmap-requires
 write-bitmap-requires c κs = search needs
 
--- src/main.rt:13:1
 same-length : tie.Need-same-length
 same-length c = search needs
 
--- src/main.rt:13:1
 same-length-2 : tie.Need-same-length-2
 same-length-2 c = search needs
 
--- src/main.rt:13:1
 returns-2 : tie.Need-returns-2
-returns-2 c = ?
+returns-2 c = 
+    let a = c .before .before .before .before .before .before .before .before .before .before .before .before .before .before .args in
+    rewritten (a .b) (a .h) (a .s) (c .before .before .before .before .before .before .before .before .before .before .before .before .before .before .pre .0) (c .before .before .before .before .before .before .before .before .before .before .before .before .before .before .pre .2) (a .file .now) (a .out .now) _ _ _
+    (sym (c .before .before .before .before .before .before .before .before .before .before .bitmap-good .ensures) ∙ not-false _ (c .before .before .before .before .before .before .before .before .before .if1 .left))
+    (λ k. omega (arith, c .before .before .before .before .before .before .before .before .before .before .before .before .before .shared-slice-known .given k))
+    (c .before .before .before .before .before .before .before .read-bitmap .ensures)
+    (c .before .before .write-bitmap .ensures .0)
+    (c .before .before .write-bitmap .ensures .1)
 
 pub normalize-spec : {M : Type 1} → statement M
 normalize-spec =

@@ -1,53 +1,67 @@
+-- The panel's sizes, and rooms that are large enough for each.
+-- Assumes nothing.
+use mathlib.Core.Path.{_≡_, sym, _∙_}
+use mathlib.Core.List.{List}
+use Prim.Native.Nat.{ℕ, _*_, _≤_}
+use native.Mathlib.Omega.{arith}
+use lib.ListN.{length}
+use lib.Seq.{length-take-le}
+use mir.Facts.{fits-below}
+use Rattle.panel.specs.Panels.{rowsOf, rowBytesOf, strideOf}
+use Rattle.panel.proofs.Panels.{size-of}
+use Rattle.bitmap.specs.Header.{fileLength}
+use Rattle.bitmap_normal.specs.Normal.{normalized}
+use Rattle.bitmap_normal.proofs.Normal.{normalized-le, fits}
 use borrow.Author.Needs.{needs}
 use Rattle.bitmap_normal.proofs.normalize_for.Statement.{statement}
 use Rattle.bitmap_normal.proofs.normalize_for.Tie as tie
-use Rattle.bitmap_normal.proofs.normalize_for.Reads as reads
-use Rattle.bitmap_normal.proofs.normalize_for.Lts as lts
-use Rattle.bitmap_normal.proofs.normalize.Reads as normalize-reads
-use Rattle.panel.proofs.row_bytes.Reads as row-bytes-reads
-use Rattle.panel.proofs.rows.Reads as rows-reads
-use Rattle.panel.proofs.stride.Reads as stride-reads
 
--- src/main.rt:32:9
+largest-picture-requires : tie.Need-largest-picture-requires
+largest-picture-requires c κs = search needs
+
 slice-aggregate-picture : tie.Need-slice-aggregate-picture
 slice-aggregate-picture c = search needs
 
--- src/main.rt:33:9
 row-bytes-requires : tie.Need-row-bytes-requires
 row-bytes-requires c κs = search needs
 
--- src/main.rt:34:9
 rows-requires : tie.Need-rows-requires
 rows-requires c κs = search needs
 
--- src/main.rt:35:16
 mul-size : tie.Need-mul-size
-mul-size c = ?
+mul-size c = rw (c .rows .ensures .0, c .before .row-bytes .ensures .0) (fits-below {n = 5808} tt (fits (c .before .before .before .before .before .before .args .panel) (c .before .before .before .before .before .before .pre .0) .picture))
 
--- src/main.rt:36:21
 stride-requires : tie.Need-stride-requires
 stride-requires c κs = search needs
 
--- src/main.rt:36:49
 slice-aggregate-normalize : tie.Need-slice-aggregate-normalize
-slice-aggregate-normalize c = ?
+slice-aggregate-normalize c = 
+    let room : c .before .before .rows .result * c .before .before .before .row-bytes .result ≤ length (c .before .before .before .before .before .largest-picture .result) =
+    rw (c .before .before .rows .ensures .0, c .before .before .before .row-bytes .ensures .0, ← c .before .before .before .before .before .largest-picture .ensures) (fits (c .before .before .before .before .before .before .before .before .args .panel) (c .before .before .before .before .before .before .before .before .pre .0) .picture) in
+    sym (length-take-le _ _ room)
 
--- src/main.rt:36:5
 normalize-requires : tie.Need-normalize-requires
-normalize-requires c κs = ?
+normalize-requires c κs = 
+    let room : c .before .before .before .rows .result * c .before .before .before .before .row-bytes .result ≤ length (c .before .before .before .before .before .before .largest-picture .result) =
+    rw (c .before .before .before .rows .ensures .0, c .before .before .before .before .row-bytes .ensures .0, ← c .before .before .before .before .before .before .largest-picture .ensures) (fits (c .before .before .before .before .before .before .before .before .before .args .panel) (c .before .before .before .before .before .before .before .before .before .pre .0) .picture) in
+    let z = size-of (c .before .before .before .before .before .before .before .before .before .args .panel) (c .before .before .before .before .before .before .before .before .before .pre .0) in
+    (omega (arith, z .some), omega arith, omega (arith, z .within), omega arith, omega arith, length-take-le _ _ room,
+    rw (c .before .before .before .rows .ensures .0, c .before .before .stride .ensures .0) (omega (arith, fits (c .before .before .before .before .before .before .before .before .before .args .panel) (c .before .before .before .before .before .before .before .before .before .pre .0) .file)))
 
--- src/main.rt:26:1
 same-length : tie.Need-same-length
 same-length c = search needs
 
--- src/main.rt:26:1
 returns : tie.Need-returns
-returns c = ?
+returns c = 
+    let e : _≡_ {A = ℕ × List ℕ} (c .before .before .before .normalize .result, _) (normalized (rowBytesOf (c .before .before .before .before .before .before .before .before .before .before .before .before .before .args .panel)) (rowsOf (c .before .before .before .before .before .before .before .before .before .before .before .before .before .args .panel)) (strideOf (c .before .before .before .before .before .before .before .before .before .before .before .before .before .args .panel)) (c .before .before .before .before .before .before .before .before .before .before .before .before .before .args .file .now) (c .before .before .before .before .before .before .before .before .before .before .before .before .before .args .out .now)) =
+    rw (c .before .before .before .before .before .before .before .rows .ensures .0, c .before .before .before .before .before .before .before .before .row-bytes .ensures .0, c .before .before .before .before .before .before .stride .ensures .0) at (c .before .before .before .normalize .ensures) in
+    (omega (arith, normalized-le _ _ _ _ _ _ _ e, fits (c .before .before .before .before .before .before .before .before .before .before .before .before .before .args .panel) (c .before .before .before .before .before .before .before .before .before .before .before .before .before .pre .0) .file), e)
 
 pub normalize-for-spec : {M : Type 1} → statement M
 normalize-for-spec =
     tie.close
     (tie.spec
+    largest-picture-requires
     slice-aggregate-picture
     row-bytes-requires
     rows-requires

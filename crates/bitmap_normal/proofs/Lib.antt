@@ -1,0 +1,2 @@
+-- What was read and is written again is the normal form.
+pub mod Normal
