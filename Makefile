@@ -8,8 +8,10 @@ LIBRARY = target/staticlib/libclock_api.a
 OUT = target/tests
 
 demo:
+	@mkdir -p target
+	@echo "Proving and building the program (about a minute the first time) ..."
 	@rt check settings_list >target/demo.log 2>&1 || { cat target/demo.log; exit 1; }
-	@demo/listing.sh
+	@python3 demo/listing.py
 
 test: tests
 	rt ci
@@ -33,7 +35,7 @@ tests: build
 	python3 tests/bitmaps/compare.py target/bin/bitmap_normal
 
 bench: build
-	bench/line.sh
+	sh bench/line.sh
 
 clean:
 	rm -rf target

@@ -32,7 +32,7 @@ minus-within N k l = ((N - k, low), (k, +ℤ-invl (pos k)))
     low =
         let e : N ≡ k + (N - k) = omega arith in
         let split : negℤ (pos N) ≡ negℤ (pos k) +ℤ negℤ (pos (N - k)) =
-          ap (λ n. negℤ (pos n)) e ∙ negℤ-+ℤ (pos k) (pos (N - k))
+        ap (λ n. negℤ (pos n)) e ∙ negℤ-+ℤ (pos k) (pos (N - k))
         in
         rw (split, +ℤ-assoc, +ℤ-invl) (+ℤ-idr (negℤ (pos k)))
 
@@ -58,15 +58,15 @@ module _ (N shown new : ℕ) where
       let one : N * 1 ≡ N = omega arith in
       elim (ℕ-discrete shown 1) [
         | yes w ↦
-          elim (ℕ-discrete new 1) [
-            | yes v ↦ rw (eq-eqb shown 1 w, eq-eqb new 1 v) (sym (*ℤ-zero (pos N)))
-            | no v ↦ rw (eq-eqb shown 1 w, ne-eqb new 1 v, one) (+ℤ-idl (negℤ (pos N)))
-          ]
+            elim (ℕ-discrete new 1) [
+              | yes v ↦ rw (eq-eqb shown 1 w, eq-eqb new 1 v) (sym (*ℤ-zero (pos N)))
+              | no v ↦ rw (eq-eqb shown 1 w, ne-eqb new 1 v, one) (+ℤ-idl (negℤ (pos N)))
+            ]
         | no w ↦
-          elim (ℕ-discrete new 1) [
-            | yes v ↦ rw (ne-eqb shown 1 w, eq-eqb new 1 v, one) (+ℤ-idr (pos N))
-            | no v ↦ rw (ne-eqb shown 1 w, ne-eqb new 1 v) (+ℤ-invr (pos N) ∙ sym (*ℤ-zero (pos N)))
-          ]
+            elim (ℕ-discrete new 1) [
+              | yes v ↦ rw (ne-eqb shown 1 w, eq-eqb new 1 v, one) (+ℤ-idr (pos N))
+              | no v ↦ rw (ne-eqb shown 1 w, ne-eqb new 1 v) (+ℤ-invr (pos N) ∙ sym (*ℤ-zero (pos N)))
+            ]
       ]
 
   pub rest-net : (sum : ℤ) → negℤ (pos (restExcess N shown)) +ℤ sum ≡ negℤ (pos (restExcess N new))
@@ -125,7 +125,7 @@ module _ (N frames : ℕ) (f : frames < N) where
 
   frame-white : (stage : ℕ) → 1 ≤ stage → stage ≤ 4
       → negℤ (pos (excessWhereWhite N stage frames)) +ℤ pushOf (whereWhite stage)
-        ≡ negℤ (pos (excessWhereWhite N stage (suc frames)))
+      ≡ negℤ (pos (excessWhereWhite N stage (suc frames)))
   unfolding pushOf
   frame-white =
       each-stage
@@ -134,7 +134,7 @@ module _ (N frames : ℕ) (f : frames < N) where
 
   frame-black : (stage : ℕ) → 1 ≤ stage → stage ≤ 4
       → negℤ (pos (excessWhereBlack N stage frames)) +ℤ pushOf (whereBlack stage)
-        ≡ negℤ (pos (excessWhereBlack N stage (suc frames)))
+      ≡ negℤ (pos (excessWhereBlack N stage (suc frames)))
   unfolding pushOf
   frame-black =
       each-stage
@@ -144,12 +144,12 @@ module _ (N frames : ℕ) (f : frames < N) where
   -- a frame changes the sum by the push of its stage
   pub excess-frame : (stage shown new : ℕ) → 1 ≤ stage → stage ≤ 4
       → negℤ (pos (blackExcess N stage shown new frames)) +ℤ pushOf (codeOf stage (pictureOfStage stage shown new))
-        ≡ negℤ (pos (blackExcess N stage shown new (suc frames)))
+      ≡ negℤ (pos (blackExcess N stage shown new (suc frames)))
   unfolding blackExcess codeBy
   excess-frame stage shown new l u = by (eqb (pictureOfStage stage shown new) 1)
     where
       by : (t : Bool) → negℤ (pos (cond t (excessWhereWhite N stage frames) (excessWhereBlack N stage frames)))
-            +ℤ pushOf (cond t (whereWhite stage) (whereBlack stage))
+          +ℤ pushOf (cond t (whereWhite stage) (whereBlack stage))
           ≡ negℤ (pos (cond t (excessWhereWhite N stage (suc frames)) (excessWhereBlack N stage (suc frames))))
       by true = frame-white stage l u
       by false = frame-black stage l u

@@ -61,8 +61,8 @@ module _ (frame row y : ℕ) where
           elim (decLt y row) [
             | yes l ↦ rw (lt-ltb y row l, lt-ltb y (row + 1) (omega arith))
             | no l ↦
-              let m : y ≤ row → ⊥ = λ q. n (omega arith) in
-              rw (le-ltb y row (omega arith), le-ltb y (row + 1) (omega arith))
+                let m : y ≤ row → ⊥ = λ q. n (omega arith) in
+                rw (le-ltb y row (omega arith), le-ltb y (row + 1) (omega arith))
           ]
 
 -- ---- one line
@@ -80,14 +80,14 @@ picture-dot stage shown new x y = by (leb stage 2)
 -- the line of a row changes the sums of its own dots by the push of their stage, and no others
 pub line-push : (N stage frame row : ℕ) (shown new : Dots) (x y : ℕ) → 1 ≤ stage → stage ≤ 4 → frame < N
     → negℤ (pos (blackExcess N stage (shown x y) (new x y) (framesHad frame row y)))
-        +ℤ cond (eqb y row) (pushOf (codeOf stage (pictureOfStage stage shown new x row))) (pos 0)
-      ≡ negℤ (pos (blackExcess N stage (shown x y) (new x y) (framesHad frame (row + 1) y)))
+    +ℤ cond (eqb y row) (pushOf (codeOf stage (pictureOfStage stage shown new x row))) (pos 0)
+    ≡ negℤ (pos (blackExcess N stage (shown x y) (new x y) (framesHad frame (row + 1) y)))
 line-push N stage frame row shown new x y l u f =
     elim (ℕ-discrete y row) [
       | yes e ↦
-        rw
-        (eq-eqb _ _ e, had-those-before frame row y (omega arith), had-this frame (row + 1) y (omega arith), ← e, picture-dot stage shown new x y, add-one)
-        (excess-frame N frame f stage (shown x y) (new x y) l u)
+          rw
+          (eq-eqb _ _ e, had-those-before frame row y (omega arith), had-this frame (row + 1) y (omega arith), ← e, picture-dot stage shown new x y, add-one)
+          (excess-frame N frame f stage (shown x y) (new x y) l u)
       | no n ↦ rw (ne-eqb _ _ n, had-other frame row y n, +ℤ-idr)
     ]
 
@@ -149,16 +149,16 @@ module _ (h N y shown new stage frame row : ℕ) (fy : y < h) (some : 0 < N) (l 
       elim (decLt (row + 1) h) [
         | yes r ↦ rw (next-row h N stage frame row r) behind-row
         | no n ↦
-          let r : h ≤ row + 1 = omega arith in
-          elim (decLt (frame + 1) N) [
-            | yes g ↦ rw (next-frame h N stage frame row r g) (behind-frame r g)
-            | no m ↦
-              let g : N ≤ frame + 1 = omega arith in
-              elim (decLt stage 4) [
-                | yes s ↦ rw (next-stage h N stage frame row r g s) (behind-stage r g s)
-                | no k ↦
-                  let s : 4 ≤ stage = omega arith in
-                  rw (next-none h N stage frame row r g s) (behind-all r g s)
-              ]
-          ]
+            let r : h ≤ row + 1 = omega arith in
+            elim (decLt (frame + 1) N) [
+              | yes g ↦ rw (next-frame h N stage frame row r g) (behind-frame r g)
+              | no m ↦
+                  let g : N ≤ frame + 1 = omega arith in
+                  elim (decLt stage 4) [
+                    | yes s ↦ rw (next-stage h N stage frame row r g s) (behind-stage r g s)
+                    | no k ↦
+                        let s : 4 ≤ stage = omega arith in
+                        rw (next-none h N stage frame row r g s) (behind-all r g s)
+                  ]
+            ]
       ]

@@ -14,7 +14,7 @@ use Rattle.lists.specs.Rules.{every, case, firstOf}
 use Rattle.panel.specs.Panels.{isPanel, rowsOf, rowBytesOf, strideOf}
 use Rattle.bitmap.specs.Header.{fileLength, headerFields, fieldGood}
 use Rattle.bitmap.specs.Bitmap.{bitmapGood, checkBitmap}
-use Rattle.bitmap.proofs.Tests.{every-append}
+use Rattle.lists.proofs.Rules.{every-append}
 
 pub rows-small : (h s : ℕ) → h ≤ 176 → s ≤ 36 → h * s ≤ 6336
 rows-small h s p q = mul-le-mul {n₁ = h} {m₁ = s} {n₂ = 176} {m₂ = 36} p q

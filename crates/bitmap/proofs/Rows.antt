@@ -19,12 +19,11 @@ use Rattle.panel.specs.Dots.{dot}
 use Rattle.panel.proofs.Dots.{dot-lt}
 use Rattle.picture.specs.Pictures.{draw}
 use Rattle.picture.specs.Slots.{pictureRow, painted}
-use Rattle.picture.proofs.Parts.{more-rows, part-length}
+use Rattle.lists.proofs.Parts.{more-rows, part-length, part-next}
 use Rattle.picture.proofs.Pictures.{Bytes, Dots, draw-rows}
 use Rattle.picture.proofs.Slots.{painted-row, rows-painted}
 use Rattle.bitmap.specs.Header.{headerLength, fileLength}
 use Rattle.bitmap.specs.Bitmap.{readPicture, fileRows}
-use Rattle.bitmap.proofs.Parts.{part-next}
 use Rattle.bitmap.proofs.RoundTrip.{length-rows}
 
 -- ---- written

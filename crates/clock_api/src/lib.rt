@@ -7,7 +7,13 @@ ghost use Rattle.bitmap.specs.Bitmap.{checkBitmap};
 
 // The line of a picture row in a stage: 0; or 14, an argument out of range; or 11, the output too short.
 #[no_mangle]
-pub extern "C" fn epd_build_line(panel: u32, stage: u32, row: u32, dots: &[u8], out: &mut [u8]) -> u8
+pub extern "C" fn epd_build_line(
+    panel: u32,
+    stage: u32,
+    row: u32,
+    dots: &[u8],
+    out: &mut [u8],
+) -> u8
     ensures { λ r. ⌜ (r, now (out .exit)) ≡ buildLine panel stage row (now (dots .entry)) (now (out .entry)) ⌝ }
 {
     wire::build_line(panel, stage, row, dots, out)

@@ -20,7 +20,7 @@ pub appended-next : {t₁ t₂ : List ℕ} {at : ℕ} {out : List ℕ} {e₁ : �
 appended-next {t₁} {t₂} {at} {out} {e₁} a b h =
     record {
       behind = b .behind ∙ rw (a .behind, length-append) (omega arith);
-      whole = b .whole ∙ rw (a .whole) (overlayAt-next at out t₁ t₂ e₁ (a .behind) h)
+      whole = b .whole ∙ rw (a .whole) (overlayAt-next at out t₁ t₂ e₁ (a .behind) h);
     }
 
 -- the room stays

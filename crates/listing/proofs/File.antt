@@ -47,7 +47,7 @@ module _ (file : List ℕ) (stop : ℕ) (a : Accepted file stop) where
         long = good-long file (a .good);
         panel = good-panel file (a .good);
         starts = good-starts file (a .good);
-        stops = rw (← stop-count here) (good-stops file (a .good))
+        stops = rw (← stop-count here) (good-stops file (a .good));
       }
 
   stop-lines : (word : List ℕ)

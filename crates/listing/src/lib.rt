@@ -158,7 +158,14 @@ fn put_panel_line(out: &mut [u8], at: usize, panel: usize) -> usize
 }
 
 // The lines of a section: a word and the count at index `count` of the file, then the steps behind it.
-fn put_section(out: &mut [u8], at: usize, word: &[u8], file: &[u8], panel: usize, count: usize) -> usize
+fn put_section(
+    out: &mut [u8],
+    at: usize,
+    word: &[u8],
+    file: &[u8],
+    panel: usize,
+    count: usize,
+) -> usize
     requires { ⌜ (panel < 3) × (count < length (now file)) × (getD (now file) count 0 ≤ 32) × (length (now word) ≤ 6)
         × (at + 1067 ≤ length (now out)) ⌝ }
     ensures { λ r. ⌜ Appended

@@ -1,4 +1,6 @@
--- Laws of the definitions in specs/: `Lists` of lists, `Rules` of tests and refusals, `Cases` of numbers below a bound.
+-- `Lists` and `Rules` have the laws of the definitions in specs/, `Parts` those of parts of lists, `Cases` those of numbers below a
+-- bound and of tables.
 pub mod Lists
+pub mod Parts
 pub mod Rules
 pub mod Cases

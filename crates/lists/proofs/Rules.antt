@@ -1,13 +1,15 @@
 -- Laws of `every`, `allBelow` and `firstOf`.
 -- Assumes nothing.
 use mathlib.Core.Path.{_≡_, refl, sym, ap, _∙_}
-use mathlib.Core.Bool.{Bool, true, false, _&&_, and-false, false≢true}
-use mathlib.Core.List.{List, [], _∷_}
+use mathlib.Core.Bool.{Bool, true, false, not, _&&_, _||_, and-false, and-true, and-assoc, false≢true}
+use mathlib.Core.List.{List, [], _∷_, _++_}
+use mathlib.Core.Logic.{_⊎_, inl, inr}
 use Prim.Native.Nat.{ℕ, zero, suc, _<_}
 use native.Mathlib.Nat.{not-suc-le-zero}
 use native.Mathlib.Decide.{ℕ-discrete}
 use native.Mathlib.Omega.{arith}
-use lib.ListN.{getD}
+use borrow.Author.Tests.{not-true, not-false}
+use lib.ListN.{getD, set, take, drop}
 use Rattle.lists.specs.Rules.{every, allBelow, Case, case, firstOf}
 
 -- ---- two tests
@@ -19,6 +21,17 @@ and-left false b e = e
 pub and-right : (a b : Bool) → (a && b) ≡ true → b ≡ true
 and-right true b e = e
 and-right false b e = absurd (false≢true e)
+
+pub either : (a b : Bool) → (a || b) ≡ true → (a ≡ true) ⊎ (b ≡ true)
+either true b e = inl refl
+either false b e = inr e
+
+-- what a function that answers a test says of the test, where its answer was refused or passed
+pub refused : {answer test : Bool} → answer ≡ test → not answer ≡ true → test ≡ false
+refused {answer} e f = sym e ∙ not-true answer f
+
+pub passed : {answer test : Bool} → answer ≡ test → not answer ≡ false → test ≡ true
+passed {answer} e f = sym e ∙ not-false answer f
 
 -- ---- every
 
@@ -42,6 +55,28 @@ pub data Kept : List Bool → Type 0 where
 pub all-kept : {tests : List Bool} → Kept tests → every tests ≡ true
 all-kept none = refl
 all-kept (keep e rest) = rw (e, all-kept rest)
+
+-- the tests of two lists
+pub every-append : (left right : List Bool) → every (left ++ right) ≡ (every left && every right)
+every-append [] right = refl
+every-append (true ∷ ts) right = every-append ts right
+every-append (false ∷ ts) right = refl
+
+-- the first k tests, and the others
+pub every-parts : (k : ℕ) (tests : List Bool) → every tests ≡ (every (take k tests) && every (drop k tests))
+every-parts zero tests = refl
+every-parts (suc k) [] = refl
+every-parts (suc k) (t ∷ ts) = rw (every-parts k ts) (sym (and-assoc t (every (take k ts)) (every (drop k ts))))
+
+-- where the first k tests hold, the others decide
+pub others : (k : ℕ) (tests : List Bool) → Kept (take k tests) → every tests ≡ every (drop k tests)
+others k tests kept = every-parts k tests ∙ rw (all-kept kept)
+
+-- where every test but one is known to hold, that one decides
+pub decides : (k : ℕ) (tests : List Bool) → Kept (set tests k true) → every tests ≡ getD tests k true
+decides k [] kept = refl
+decides zero (t ∷ ts) (keep e rest) = rw (all-kept rest, and-true)
+decides (suc k) (t ∷ ts) (keep e rest) = rw (e, decides k ts rest)
 
 -- ---- allBelow
 

@@ -28,10 +28,10 @@ pub record Worked : Type 0 where
 pub worked : Worked
 unfolding withRegion withPicture withBytes slotPicture slotBytes pictureOf rawOf overdrawn draw over dot regionGood payloadGood
 worked = record {
-    in-a-byte = refl;
-    across-bytes = refl;
-    unused-bit = refl;
-    used-bits = refl;
-    last-dot = refl;
-    past-the-edge = refl
-  }
+  in-a-byte = refl;
+  across-bytes = refl;
+  unused-bit = refl;
+  used-bits = refl;
+  last-dot = refl;
+  past-the-edge = refl;
+}

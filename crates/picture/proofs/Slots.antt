@@ -14,7 +14,7 @@ use Rattle.panel.specs.Dots.{dot}
 use Rattle.panel.proofs.Dots.{dot-lt}
 use Rattle.picture.specs.Pictures.{draw, over, overdrawn}
 use Rattle.picture.specs.Slots.{pictureOf, rawOf, slotBytes, withBytes, slotPicture, withPicture, pictureRow, painted}
-use Rattle.picture.proofs.Parts.{more-rows, part-own, part-before, part-behind, overlayAt-own}
+use Rattle.lists.proofs.Parts.{more-rows, part-own, part-before, part-behind, overlayAt-own}
 use Rattle.picture.proofs.Pictures.{Bytes, Dots, Inside, or-white, and-black, length-draw, bytes-draw, dot-draw, draw-cong, draw-dot, set-bit, over-in, over-out, over-cong, over-lt, over-dot, over-row}
 
 -- h rows of b bytes

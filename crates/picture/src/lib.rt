@@ -141,7 +141,15 @@ fn payload_good(width: usize, height: usize, payload: &[u8]) -> bool
 }
 
 // The number of a region's refusal, 5 or 6; 0 where it is good.
-pub fn region_number(b: usize, h: usize, x: u32, y: u32, width: u32, height: u32, payload: &[u8]) -> u8
+pub fn region_number(
+    b: usize,
+    h: usize,
+    x: u32,
+    y: u32,
+    width: u32,
+    height: u32,
+    payload: &[u8],
+) -> u8
     requires { ⌜ (b ≤ 33) × (h ≤ 176) ⌝ }
     ensures { λ r. ⌜ r ≡ firstOf (regionCases b h x y width height (now (payload .entry))) (λ n. n) 0 ⌝ }
 {

@@ -5,10 +5,11 @@ ghost use mathlib.Core.Bool.{true};
 ghost use lib.ListN.{length, drop};
 ghost use mathlib.Core.Bool.{cond};
 ghost use lib.Dec.{eqb, leb};
-ghost use Rattle.settings.specs.Settings.{stepsOf, settingsGood};
+ghost use Rattle.settings.specs.Settings.{stepsOf, panelOf, settingsGood};
+ghost use Rattle.settings.specs.Steps.{waitsBefore};
 ghost use Rattle.run.specs.Clock.{stepFrom, readingOf};
 ghost use Rattle.run.specs.Place.{frameNumber, nextPosition};
-ghost use Rattle.run.specs.Due.{frameDue, dueAt, dueOf};
+ghost use Rattle.run.specs.Due.{runFrames, frameDue, dueAt, dueOf};
 ghost use Rattle.run.specs.Conditions.{afterWrite, placeValid, runValid};
 ghost use Rattle.run.specs.Facts.{kindIsWrite, Accepted, Ready};
 use settings::Kind;
@@ -74,18 +75,38 @@ pub fn next_position(rows: u32, frames: u32, stage: u32, frame: u32, row: u32) -
     ensures { λ r. ⌜ r ≡ nextPosition rows frames stage frame row ⌝ }
 {
     if row + 1 < rows {
-        return Position::Line { stage, frame, row: row + 1 };
+        return Position::Line {
+            stage,
+            frame,
+            row: row + 1,
+        };
     }
     if frame + 1 < frames {
-        return Position::Line { stage, frame: frame + 1, row: 0 };
+        return Position::Line {
+            stage,
+            frame: frame + 1,
+            row: 0,
+        };
     }
     if stage < 4 {
-        return Position::Line { stage: stage + 1, frame: 0, row: 0 };
+        return Position::Line {
+            stage: stage + 1,
+            frame: 0,
+            row: 0,
+        };
     }
     Position::Stop(0)
 }
 
 // ---- when the next thing is due
+
+// N, the frames per stage of a run with this settings file.
+pub fn run_frames(file: &[u8]) -> u32
+    requires { ⌜ settingsGood (now file) ≡ true ⌝ }
+    ensures { λ r. ⌜ (r ≡ runFrames (now (file .entry))) × (r ≤ 21) ⌝ }
+{
+    panel::frames(settings::panel_of(file))
+}
 
 // The number of a frame, counted over the whole run.
 fn frame_number(frames: u32, stage: u32, frame: u32) -> u32
@@ -107,15 +128,23 @@ fn remaining(from: Passed, ms: u32, moment: Passed) -> u32
     ms - (gone as u32)
 }
 
+// The ms of the waits before the next write from step k of n on; the steps stand from index `at` on.
+fn waits_from(file: &[u8], at: usize, n: usize, k: u32) -> u32
+    requires { ⌜ (settingsGood (now file) ≡ true) × (at ≤ length (now file)) × (n ≤ 32) × (k ≤ n) ⌝ }
+    ensures { λ r. ⌜ (r ≡ waitsBefore (drop k (stepsOf (panelOf (now (file .entry))) n (drop at (now (file .entry)))))) × (r < 2 ^ 24) ⌝ }
+{
+    let found = settings::next_write_from(file, settings::panel_of(file), at, n, k as usize);
+    found.waits
+}
+
 // From start step k on.
 fn start_to_go(file: &[u8], run: Run, k: u32, moment: Passed) -> u32
     requires { ⌜ (settingsGood (now file) ≡ true) × (Ready (now file) run (Position.Start k) moment) ⌝ }
     ensures { λ r. ⌜ r ≡ dueAt (now (file .entry)) run (Position.Start k) - moment .0 ⌝ }
 {
     let handed = run.handed;
-    let n = file[2] as usize;
-    let found = settings::next_write_from(file, settings::panel_of(file), 3, n, k as usize);
-    remaining(handed, found.waits, moment)
+    let waits = waits_from(file, 3, file[2] as usize, k);
+    remaining(handed, waits, moment)
 }
 
 // At a line: the first of a frame waits for its moment.
@@ -127,8 +156,8 @@ fn line_to_go(file: &[u8], run: Run, stage: u32, frame: u32, row: u32, moment: P
         return 0;
     }
     let first = run.first;
-    let frames = panel::frames(settings::panel_of(file));
-    remaining(first, 30 * frame_number(frames, stage, frame), moment)
+    let i = frame_number(run_frames(file), stage, frame);
+    remaining(first, 30 * i, moment)
 }
 
 // From stop step k on: the waits count from the end of the last frame and from what was handed out last.
@@ -138,11 +167,9 @@ fn stop_to_go(file: &[u8], stop: usize, run: Run, k: u32, moment: Passed) -> u32
 {
     let handed = run.handed;
     let first = run.first;
-    let panel = settings::panel_of(file);
-    let n = file[stop] as usize;
-    let found = settings::next_write_from(file, panel, stop + 1, n, k as usize);
-    let by_frames = remaining(first, 120 * panel::frames(panel) + found.waits, moment);
-    let by_handed = remaining(handed, found.waits, moment);
+    let waits = waits_from(file, stop + 1, file[stop] as usize, k);
+    let by_frames = remaining(first, 120 * run_frames(file) + waits, moment);
+    let by_handed = remaining(handed, waits, moment);
     if by_frames < by_handed {
         return by_handed;
     }
@@ -175,14 +202,15 @@ fn is_write(kind: Kind) -> bool
 }
 
 // Whether step k of n is the first one, or stands right after a write; the steps stand from index `at` on.
-fn after_write(file: &[u8], panel: usize, at: usize, n: usize, k: usize) -> bool
-    requires { ⌜ (panel < 3) × (at ≤ length (now file)) × (k ≤ n) ⌝ }
-    ensures { λ r. ⌜ r ≡ afterWrite (stepsOf panel n (drop at (now (file .entry)))) k ⌝ }
+fn after_write(file: &[u8], at: usize, n: usize, k: u32) -> bool
+    requires { ⌜ (settingsGood (now file) ≡ true) × (at ≤ length (now file)) × (k ≤ n) ⌝ }
+    ensures { λ r. ⌜ r ≡ afterWrite (stepsOf (panelOf (now (file .entry))) n (drop at (now (file .entry)))) k ⌝ }
 {
     if k == 0 {
         return true;
     }
-    let passed = settings::pass_steps(file, panel, at, k - 1);
+    let panel = settings::panel_of(file);
+    let passed = settings::pass_steps(file, panel, at, (k - 1) as usize);
     let end = passed.end;
     is_write(settings::step_at(file, end, panel))
 }
@@ -217,7 +245,7 @@ fn start_valid(file: &[u8], run: Run, k: u32) -> bool
     if n < k as usize {
         return false;
     }
-    if !after_write(file, settings::panel_of(file), 3, n, k as usize) {
+    if !after_write(file, 3, n, k) {
         return false;
     }
     if run.first.0 != 0 {
@@ -235,8 +263,7 @@ fn line_valid(file: &[u8], run: Run, stage: u32, frame: u32, row: u32) -> bool
 {
     let first = run.first;
     let handed = run.handed;
-    let panel = settings::panel_of(file);
-    let frames = panel::frames(panel);
+    let frames = run_frames(file);
     if stage < 1 {
         return false;
     }
@@ -246,7 +273,7 @@ fn line_valid(file: &[u8], run: Run, stage: u32, frame: u32, row: u32) -> bool
     if frames <= frame {
         return false;
     }
-    if panel::rows(panel) <= row as usize {
+    if panel::rows(settings::panel_of(file)) <= row as usize {
         return false;
     }
     let i = frame_number(frames, stage, frame);
@@ -262,15 +289,14 @@ fn stop_valid(file: &[u8], stop: usize, run: Run, k: u32) -> bool
 {
     let first = run.first;
     let handed = run.handed;
-    let panel = settings::panel_of(file);
     let n = file[stop] as usize;
     if n < k as usize {
         return false;
     }
-    if !after_write(file, panel, stop + 1, n, k as usize) {
+    if !after_write(file, stop + 1, n, k) {
         return false;
     }
-    frame_due_by(first, frame_before(4 * panel::frames(panel), k), handed)
+    frame_due_by(first, frame_before(4 * run_frames(file), k), handed)
 }
 
 fn place_valid(file: &[u8], stop: usize, run: Run) -> bool

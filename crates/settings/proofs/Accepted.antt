@@ -3,12 +3,12 @@
 use mathlib.Core.Path.{_≡_, refl, sym, ap, _∙_}
 use mathlib.Core.Bool.{Bool, true, false, _||_, false≢true}
 use mathlib.Core.List.{List, [], _∷_, _++_, List·Memᴰ, List·Memᴰ·not-nil, List·Memᴰ·cases-cons, List·Memᴰ·append-cases}
-use mathlib.Core.Logic.{_⊎_, inl, inr, ⊎-elim}
+use mathlib.Core.Logic.{⊎-elim}
 use Prim.Native.Nat.{ℕ, zero, suc, _+_, _*_, _≤_, _<_}
 use native.Mathlib.Omega.{arith}
 use borrow.Author.Tests.{leb-true, ltb-true, eqb-true}
 use lib.ListN.{length, getD, drop, length-drop}
-use Rattle.lists.proofs.Rules.{and-left, and-right, holds}
+use Rattle.lists.proofs.Rules.{and-left, and-right, holds, either}
 use Rattle.panel.specs.Registers.{dataLength}
 use Rattle.panel.proofs.Registers.{data-length-le}
 use Rattle.settings.specs.Settings.{Step, write, wait, malformed, stepOf, sizeOf, stepsOf, restOf, isStep, allSteps, isWriteTo, writesTo, longestFile, panelOf, startCount, startSteps, stopSection, stopCount, stopSteps, endOf, settingsRules, settingsGood}
@@ -25,10 +25,6 @@ written-size : (register : ℕ) (step : Step) → isWriteTo register step ≡ tr
 written-size register (write r d) e = rw (eqb-true r register e)
 written-size register (wait ms) e = absurd (false≢true e)
 written-size register malformed e = absurd (false≢true e)
-
-either : (a b : Bool) → (a || b) ≡ true → (a ≡ true) ⊎ (b ≡ true)
-either true b e = inl refl
-either false b e = inr e
 
 -- n steps take at most ten bytes each
 pub steps-le : (panel n : ℕ) (s : List ℕ) → length s ≤ 10 * n + length (restOf panel n s)

@@ -12,21 +12,10 @@ use lib.Dec.{eqb, leb, ltb}
 use lib.ListN.{length, getD, take, drop, length-drop}
 use lib.Seq.{drop-drop, getD-drop}
 use Rattle.lists.specs.Rules.{every}
-use Rattle.lists.proofs.Rules.{broken, holds, Kept, none, keep, all-kept}
+use Rattle.lists.proofs.Rules.{broken, holds, Kept, none, keep, all-kept, every-parts, others}
 use Rattle.settings.specs.Settings.{stepsOf, restOf, allSteps, writesTo, panelOf, startCount, startSteps, stopSection, stopCount, stopSteps, endOf, settingsRules, settingsGood}
 use Rattle.settings.specs.Facts.{headRules, startRules, stopRules, Readable, StopAt, StepsPassed, StartPassed, LaidOut}
 use Rattle.settings.specs.declared.StepsEnd.{StepsEnd}
-
--- ---- tests in two parts
-
-every-parts : (k : ℕ) (tests : List Bool) → every tests ≡ (every (take k tests) && every (drop k tests))
-every-parts zero tests = refl
-every-parts (suc k) [] = refl
-every-parts (suc k) (t ∷ ts) = rw (every-parts k ts) (sym (and-assoc t (every (take k ts)) (every (drop k ts))))
-
--- where the first k tests hold, the others decide
-pub others : (k : ℕ) (tests : List Bool) → Kept (take k tests) → every tests ≡ every (drop k tests)
-others k tests kept = every-parts k tests ∙ rw (all-kept kept)
 
 -- ---- the first rules
 

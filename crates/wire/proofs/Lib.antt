@@ -1,5 +1,3 @@
--- Laws of lists that are laid over others in turn.
-pub mod Overlays
 -- A byte of a line is four joined codes, and comes from one picture byte.
 pub mod Bytes
 -- What the three loops leave is a line, and its length.

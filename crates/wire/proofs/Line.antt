@@ -9,7 +9,7 @@ use Rattle.lists.specs.Lists.{tabulate, overlay, overlayAt}
 use Rattle.lists.proofs.Lists.{length-tabulate}
 use Rattle.panel.specs.Codes.{whereWhite, whereBlack, codeBy}
 use Rattle.wire.specs.Line.{evenByte, oddByte, scanByte, line, lineLength, handedLine}
-use Rattle.wire.proofs.Overlays.{overlay-three}
+use Rattle.lists.proofs.Parts.{overlay-three}
 
 module _ (b h stage y : ℕ) (row : ℕ → ℕ) where
   pub length-line : length (line b h stage y row) ≡ lineLength b h

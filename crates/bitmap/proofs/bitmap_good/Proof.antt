@@ -3,8 +3,7 @@
 use mathlib.Core.Path.{refl, sym, _∙_}
 use borrow.Author.Tests.{eq-eqb, ne-eqb}
 use borrow.Author.Needs.{needs}
-use Rattle.lists.proofs.Rules.{none, keep, broken}
-use Rattle.bitmap.proofs.Tests.{decides, refused, passed}
+use Rattle.lists.proofs.Rules.{none, keep, broken, decides, refused, passed}
 use Rattle.bitmap.proofs.Check.{rows-fit, file-fits, groups, good-groups}
 use Rattle.bitmap.proofs.bitmap_good.Statement.{statement}
 use Rattle.bitmap.proofs.bitmap_good.Tie as tie

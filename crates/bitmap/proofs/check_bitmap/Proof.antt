@@ -5,7 +5,7 @@ use mathlib.Core.Bool.{true, false}
 use native.Mathlib.Omega.{arith}
 use borrow.Author.Tests.{ltb-true}
 use borrow.Author.Needs.{needs}
-use Rattle.bitmap.proofs.Tests.{refused, passed}
+use Rattle.lists.proofs.Rules.{refused, passed}
 use Rattle.bitmap.proofs.Check.{check-file, check-panel}
 use Rattle.bitmap.proofs.check_bitmap.Statement.{statement}
 use Rattle.bitmap.proofs.check_bitmap.Tie as tie

@@ -2,8 +2,7 @@
 -- Assumes nothing.
 use mathlib.Core.Path.{refl, sym, _∙_}
 use borrow.Author.Needs.{needs}
-use Rattle.lists.proofs.Rules.{none, keep, broken}
-use Rattle.bitmap.proofs.Tests.{decides, refused, passed}
+use Rattle.lists.proofs.Rules.{none, keep, broken, decides, refused, passed}
 use Rattle.bitmap.proofs.Check.{rows-fit, imageTests}
 use Rattle.bitmap.proofs.image_fields_good.Statement.{statement}
 use Rattle.bitmap.proofs.image_fields_good.Tie as tie

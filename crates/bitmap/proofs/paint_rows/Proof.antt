@@ -6,7 +6,7 @@ use native.Mathlib.Omega.{arith}
 use borrow.Author.Needs.{needs}
 use lib.ListN.{length}
 use Rattle.picture.specs.Slots.{painted}
-use Rattle.picture.proofs.Parts.{more-rows}
+use Rattle.lists.proofs.Parts.{more-rows}
 use Rattle.picture.proofs.Slots.{painted-none}
 use Rattle.bitmap.proofs.Rows.{dotOf, paint-next}
 use Rattle.bitmap.proofs.paint_rows.Statement.{statement}

@@ -6,7 +6,7 @@ use borrow.Author.Needs.{needs}
 use Rattle.picture.specs.Slots.{pictureOf}
 use Rattle.bitmap.specs.Header.{headerLength, header}
 use Rattle.bitmap.specs.Bitmap.{fileRows, writtenFile}
-use Rattle.bitmap.proofs.Parts.{part-next}
+use Rattle.lists.proofs.Parts.{part-next}
 use Rattle.bitmap.proofs.RoundTrip.{length-header}
 use Rattle.bitmap.proofs.write_bitmap.Statement.{statement}
 use Rattle.bitmap.proofs.write_bitmap.Tie as tie

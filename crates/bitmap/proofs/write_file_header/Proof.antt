@@ -7,7 +7,7 @@ use lib.ListN.{take}
 use Rattle.bitmap.specs.Numbers.{numberBytes}
 use Rattle.bitmap.specs.Header.{header, fileLength}
 use Rattle.bitmap.proofs.Check.{rows-fit, file-fits}
-use Rattle.bitmap.proofs.Parts.{part-next}
+use Rattle.lists.proofs.Parts.{part-next}
 use Rattle.bitmap.proofs.write_file_header.Statement.{statement}
 use Rattle.bitmap.proofs.write_file_header.Tie as tie
 

@@ -5,7 +5,7 @@ use native.Mathlib.Omega.{arith}
 use borrow.Author.Needs.{needs}
 use lib.ListN.{take, drop}
 use Rattle.bitmap.specs.Header.{header}
-use Rattle.bitmap.proofs.Parts.{part-next}
+use Rattle.lists.proofs.Parts.{part-next}
 use Rattle.bitmap.proofs.write_header.Statement.{statement}
 use Rattle.bitmap.proofs.write_header.Tie as tie
 

@@ -8,7 +8,7 @@ use lib.ListN.{take, drop, replicate}
 use Rattle.bitmap.specs.Numbers.{numberBytes}
 use Rattle.bitmap.specs.Header.{header}
 use Rattle.bitmap.proofs.Check.{rows-fit}
-use Rattle.bitmap.proofs.Parts.{part-next}
+use Rattle.lists.proofs.Parts.{part-next}
 use Rattle.bitmap.proofs.write_image_fields.Statement.{statement}
 use Rattle.bitmap.proofs.write_image_fields.Tie as tie
 

@@ -7,7 +7,7 @@ use borrow.Author.Needs.{needs}
 use lib.ListN.{take, drop}
 use Rattle.bitmap.specs.Numbers.{numberBytes}
 use Rattle.bitmap.specs.Header.{header}
-use Rattle.bitmap.proofs.Parts.{part-next}
+use Rattle.lists.proofs.Parts.{part-next}
 use Rattle.bitmap.proofs.write_info_header.Statement.{statement}
 use Rattle.bitmap.proofs.write_info_header.Tie as tie
 

@@ -8,8 +8,7 @@ use borrow.Author.Needs.{needs}
 use lib.ListN.{length, replicate}
 use Rattle.picture.specs.Slots.{pictureOf, pictureRow}
 use Rattle.picture.proofs.Slots.{rows-picture}
-use Rattle.picture.proofs.Parts.{more-rows, part-length}
-use Rattle.bitmap.proofs.Parts.{part-next}
+use Rattle.lists.proofs.Parts.{more-rows, part-length, part-next}
 use Rattle.bitmap.proofs.write_row.Statement.{statement}
 use Rattle.bitmap.proofs.write_row.Tie as tie
 

@@ -12,7 +12,7 @@ use Rattle.lists.specs.Lists.{overlayAt}
 use Rattle.lists.proofs.Lists.{overlayAt-none}
 use Rattle.picture.specs.Slots.{pictureOf}
 use Rattle.picture.proofs.Slots.{rows-picture}
-use Rattle.picture.proofs.Parts.{more-rows}
+use Rattle.lists.proofs.Parts.{more-rows}
 use Rattle.bitmap.specs.Header.{headerLength}
 use Rattle.bitmap.specs.Bitmap.{fileRows}
 use Rattle.bitmap.proofs.Check.{rows-fit, file-fits}

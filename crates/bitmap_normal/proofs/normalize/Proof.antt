@@ -12,12 +12,12 @@ bitmap-good-requires : tie.Need-bitmap-good-requires
 bitmap-good-requires c κs = search needs
 
 returns : tie.Need-returns
-returns c = 
+returns c =
     let a = c .before .before .before .before .before .args in
     refused (a .b) (a .h) (a .s) (c .before .before .before .before .before .pre .0) (c .before .before .before .before .before .pre .2) (a .file .now) (a .out .now) (sym (c .before .bitmap-good .ensures) ∙ not-true _ (c .if1 .taken))
 
 read-bitmap-requires : tie.Need-read-bitmap-requires
-read-bitmap-requires c κs = 
+read-bitmap-requires c κs =
     let a = c .before .before .before .before .before .before .args in
     let p = c .before .before .before .before .before .before .pre in
     let l = good-length (a .b) (a .h) (a .s) (a .file .now) (sym (c .before .before .bitmap-good .ensures) ∙ not-false _ (c .before .if1 .left)) in
@@ -33,7 +33,7 @@ same-length-2 : tie.Need-same-length-2
 same-length-2 c = search needs
 
 returns-2 : tie.Need-returns-2
-returns-2 c = 
+returns-2 c =
     let a = c .before .before .before .before .before .before .before .before .before .before .before .before .before .before .args in
     rewritten (a .b) (a .h) (a .s) (c .before .before .before .before .before .before .before .before .before .before .before .before .before .before .pre .0) (c .before .before .before .before .before .before .before .before .before .before .before .before .before .before .pre .2) (a .file .now) (a .out .now) _ _ _
     (sym (c .before .before .before .before .before .before .before .before .before .before .bitmap-good .ensures) ∙ not-false _ (c .before .before .before .before .before .before .before .before .before .if1 .left))

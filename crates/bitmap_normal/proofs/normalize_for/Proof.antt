@@ -35,24 +35,30 @@ stride-requires : tie.Need-stride-requires
 stride-requires c κs = search needs
 
 slice-aggregate-normalize : tie.Need-slice-aggregate-normalize
-slice-aggregate-normalize c = 
+slice-aggregate-normalize c =
     let room : c .before .before .rows .result * c .before .before .before .row-bytes .result ≤ length (c .before .before .before .before .before .largest-picture .result) =
     rw (c .before .before .rows .ensures .0, c .before .before .before .row-bytes .ensures .0, ← c .before .before .before .before .before .largest-picture .ensures) (fits (c .before .before .before .before .before .before .before .before .args .panel) (c .before .before .before .before .before .before .before .before .pre .0) .picture) in
     sym (length-take-le _ _ room)
 
 normalize-requires : tie.Need-normalize-requires
-normalize-requires c κs = 
+normalize-requires c κs =
     let room : c .before .before .before .rows .result * c .before .before .before .before .row-bytes .result ≤ length (c .before .before .before .before .before .before .largest-picture .result) =
     rw (c .before .before .before .rows .ensures .0, c .before .before .before .before .row-bytes .ensures .0, ← c .before .before .before .before .before .before .largest-picture .ensures) (fits (c .before .before .before .before .before .before .before .before .before .args .panel) (c .before .before .before .before .before .before .before .before .before .pre .0) .picture) in
-    let z = size-of (c .before .before .before .before .before .before .before .before .before .args .panel) (c .before .before .before .before .before .before .before .before .before .pre .0) in
-    (omega (arith, z .some), omega arith, omega (arith, z .within), omega arith, omega arith, length-take-le _ _ room,
-    rw (c .before .before .before .rows .ensures .0, c .before .before .stride .ensures .0) (omega (arith, fits (c .before .before .before .before .before .before .before .before .before .args .panel) (c .before .before .before .before .before .before .before .before .before .pre .0) .file)))
+    let z = size-of (c .before .before .before .before .before .before .before .before .before .args .panel) (c .before .before .before .before .before .before .before .before .before .pre .0) in (
+      omega (arith, z .some),
+      omega arith,
+      omega (arith, z .within),
+      omega arith,
+      omega arith,
+      length-take-le _ _ room,
+      rw (c .before .before .before .rows .ensures .0, c .before .before .stride .ensures .0) (omega (arith, fits (c .before .before .before .before .before .before .before .before .before .args .panel) (c .before .before .before .before .before .before .before .before .before .pre .0) .file)),
+    )
 
 same-length : tie.Need-same-length
 same-length c = search needs
 
 returns : tie.Need-returns
-returns c = 
+returns c =
     let e : _≡_ {A = ℕ × List ℕ} (c .before .before .before .normalize .result, _) (normalized (rowBytesOf (c .before .before .before .before .before .before .before .before .before .before .before .before .before .args .panel)) (rowsOf (c .before .before .before .before .before .before .before .before .before .before .before .before .before .args .panel)) (strideOf (c .before .before .before .before .before .before .before .before .before .before .before .before .before .args .panel)) (c .before .before .before .before .before .before .before .before .before .before .before .before .before .args .file .now) (c .before .before .before .before .before .before .before .before .before .before .before .before .before .args .out .now)) =
     rw (c .before .before .before .before .before .before .before .rows .ensures .0, c .before .before .before .before .before .before .before .before .row-bytes .ensures .0, c .before .before .before .before .before .before .stride .ensures .0) at (c .before .before .before .normalize .ensures) in
     (omega (arith, normalized-le _ _ _ _ _ _ _ e, fits (c .before .before .before .before .before .before .before .before .before .before .before .before .before .args .panel) (c .before .before .before .before .before .before .before .before .before .before .before .before .before .pre .0) .file), e)

@@ -34,7 +34,7 @@ same-length-2 : tie.Need-same-length-2
 same-length-2 c = search needs
 
 returns-2 : tie.Need-returns-2
-returns-2 c = 
+returns-2 c =
     appended-as (decimal-2 (c .before .before .before .before .before .before .before .before .before .before .args .n) (c .before .before .before .before .before .before .before .before .last-digit .ensures) (c .before .before .before .before .before .before .last-digit2 .ensures) (c .before .before .before .before .before .before .before .if1 .left) (c .before .before .before .before .before .if2 .taken)) (c .before .before .put-text2 .ensures)
 
 last-digit-requires-3 : tie.Need-last-digit-requires-3
@@ -50,7 +50,7 @@ same-length-3 : tie.Need-same-length-3
 same-length-3 c = search needs
 
 returns-3 : tie.Need-returns-3
-returns-3 c = 
+returns-3 c =
     appended-as
     (decimal-3 (c .before .before .before .before .before .before .before .before .before .before .before .before .args .n) (c .before .before .before .before .before .before .before .before .before .before .last-digit .ensures) (c .before .before .before .before .before .before .before .before .last-digit2 .ensures) (c .before .before .before .before .before .before .before .before .before .if1 .left) (c .before .before .before .before .before .before .last-digit3 .ensures) (c .before .before .before .before .before .before .before .if2 .left) (c .before .before .before .before .before .if3 .taken))
     (c .before .before .put-text3 .ensures)
@@ -68,7 +68,7 @@ same-length-4 : tie.Need-same-length-4
 same-length-4 c = search needs
 
 returns-4 : tie.Need-returns-4
-returns-4 c = 
+returns-4 c =
     appended-as
     (decimal-4 (c .before .before .before .before .before .before .before .before .before .before .before .before .before .args .n) (c .before .before .before .before .before .before .before .before .before .before .before .last-digit .ensures) (c .before .before .before .before .before .before .before .before .before .last-digit2 .ensures) (c .before .before .before .before .before .before .before .before .before .before .if1 .left) (c .before .before .before .before .before .before .before .last-digit3 .ensures) (c .before .before .before .before .before .before .before .before .if2 .left) (c .before .before .before .before .before .last-digit4 .ensures) (c .before .before .before .before .before .before .if3 .left))
     (c .before .before .put-text4 .ensures)

@@ -22,11 +22,11 @@ same-length : tie.Need-same-length
 same-length c = search needs
 
 returns : tie.Need-returns
-returns c = 
+returns c =
     appended-as (listing-bad (c .before .before .before .before .before .before .before .before .before .before .args .file .now) (sym (c .before .before .before .before .before .before .before .laid-out .ensures .good) ∙ not-true _ (c .before .before .before .before .before .if1 .taken))) (c .before .before .put-text .ensures)
 
 put-file-requires : tie.Need-put-file-requires
-put-file-requires c κs = 
+put-file-requires c κs =
     let good = not-false _ (c .before .if1 .left) in
     let stop = c .before .before .before .laid-out .ensures .stop good in
     (omega arith, record { good = sym (c .before .before .before .laid-out .ensures .good) ∙ good; inside = stop .0; section = stop .1 })
@@ -35,7 +35,7 @@ same-length-2 : tie.Need-same-length-2
 same-length-2 c = search needs
 
 returns-2 : tie.Need-returns-2
-returns-2 c = 
+returns-2 c =
     appended-as (listing-good (c .before .before .before .before .before .before .before .before .before .args .file .now) (sym (c .before .before .before .before .before .before .laid-out .ensures .good) ∙ not-false _ (c .before .before .before .before .if1 .left))) (c .before .before .put-file .ensures)
 
 pub put-listing-spec : {M : Type 1} → statement M

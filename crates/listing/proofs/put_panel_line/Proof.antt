@@ -42,7 +42,7 @@ same-length-3 : tie.Need-same-length-3
 same-length-3 c = search needs
 
 returns-3 : tie.Need-returns-3
-returns-3 c = 
+returns-3 c =
     let e : 2 ≡ c .before .before .before .before .before .before .before .before .args .panel = omega arith in
     appended-as (ap panelLine e) (c .before .before .put-text3 .ensures)
 

@@ -24,7 +24,7 @@ cast-put-steps : tie.Need-cast-put-steps
 cast-put-steps c = search needs
 
 put-steps-requires : tie.Need-put-steps-requires
-put-steps-requires c κs = 
+put-steps-requires c κs =
     let short = number-short (c .before .before .before .before .before .before .before .before .before .args .word .now) (getD (c .before .before .before .before .before .before .before .before .before .args .file .now) (c .before .before .before .before .before .before .before .before .before .args .count) 0) in
     (omega arith, omega arith, omega arith, omega (arith, short, c .before .before .before .put-number-line .ensures .behind))
 
@@ -32,7 +32,7 @@ same-length : tie.Need-same-length
 same-length c = search needs
 
 returns : tie.Need-returns
-returns c = 
+returns c =
     let short = number-short (c .before .before .before .before .before .before .before .before .before .before .before .before .args .word .now) (getD (c .before .before .before .before .before .before .before .before .before .before .before .before .args .file .now) (c .before .before .before .before .before .before .before .before .before .before .before .before .args .count) 0) in
     appended-next (c .before .before .before .before .before .before .put-number-line .ensures) (c .before .before .put-steps .ensures) (omega (arith, short, c .before .before .before .before .before .before .put-number-line .ensures .behind))
 

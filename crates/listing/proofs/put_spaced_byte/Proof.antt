@@ -24,7 +24,7 @@ same-length : tie.Need-same-length
 same-length c = search needs
 
 returns : tie.Need-returns
-returns c = 
+returns c =
     let e : 32 ∷ c .before .before .before .before .before .before .digit-of .result ∷ c .before .before .before .before .before .digit-of2 .result ∷ [] ≡ ascii " " ++ hexByte (c .before .before .before .before .before .before .before .before .args .byte) =
     rw (c .before .before .before .before .before .before .digit-of .ensures, c .before .before .before .before .before .digit-of2 .ensures) in
     appended-as e (c .before .before .put-text .ensures)

@@ -36,7 +36,7 @@ part-put-write-line-start : tie.Need-part-put-write-line-start
 part-put-write-line-start c = search needs
 
 part-put-write-line-end : tie.Need-part-put-write-line-end
-part-put-write-line-end c = 
+part-put-write-line-end c =
     let a = c .before .before .before .before .before .before .before .before .args in
     let fits = write-fits (a .panel) (a .file .now) (a .from) (c .before .before .before .kind .given .0 .0) (sym (c .before .before .before .before .before .step-at .ensures) ∙ c .before .before .before .kind .given .1) (omega arith) in
     omega (arith, fits)
@@ -51,7 +51,7 @@ slice-aggregate-put-number-line : tie.Need-slice-aggregate-put-number-line
 slice-aggregate-put-number-line c = search needs
 
 put-number-line-requires : tie.Need-put-number-line-requires
-put-number-line-requires c κs = 
+put-number-line-requires c κs =
     let a = c .before .before .before .before .before .before .before .before .args in
     let short = step-wait (a .panel) (c .before .before .before .kind2 .given .0 .0) (drop (a .from) (a .file .now)) (sym (c .before .before .before .before .before .step-at .ensures) ∙ c .before .before .before .kind2 .given .1) .2 in
     (omega arith, omega arith)
@@ -74,13 +74,13 @@ same-length-2 : tie.Need-same-length-2
 same-length-2 c = search needs
 
 returns-2 : tie.Need-returns-2
-returns-2 c = 
+returns-2 c =
     let a = c .before .before .before .before .before .before .before .before .before .before .before .args in
     let e = step-wait (a .panel) (c .before .before .before .before .before .before .kind2 .given .0 .0) (drop (a .from) (a .file .now)) (sym (c .before .before .before .before .before .before .before .before .step-at .ensures) ∙ c .before .before .before .before .before .before .kind2 .given .1) .0 in
     appended-as (ap stepLine (sym e)) (c .before .before .put-number-line .ensures)
 
 returns-3 : tie.Need-returns-3
-returns-3 c = 
+returns-3 c =
     let a = c .before .before .before .before .before .args in
     appended-as
     (malformed-line (stepOf (a .panel) (drop (a .from) (a .file .now))) (sym (c .before .before .step-at .ensures) ∙ c .enum-told .given .1))

@@ -15,7 +15,7 @@ use Rattle.listing.proofs.put_steps.Statement.{statement}
 use Rattle.listing.proofs.put_steps.Tie as tie
 
 abbrev Inv-loop : tie.InvT-loop
-Inv-loop out₀ at file panel from n end₀ next₀ i₀ out end next i = 
+Inv-loop out₀ at file panel from n end₀ next₀ i₀ out end next i =
     (i ≤ n)
     × (next ≤ length file)
     × (drop next file ≡ restOf panel i (drop from file))
@@ -74,7 +74,7 @@ same-length : tie.Need-same-length Inv-loop μ-loop
 same-length c = search needs
 
 returns : tie.Need-returns Inv-loop μ-loop
-returns c = 
+returns c =
     let a = c .before .before .before .before .args in
     let e : c .before .loop .i ≡ a .n = omega arith in
     appended-as (ap (λ n. stepLines (stepsOf (a .panel) n (drop (a .from) (a .file .now)))) e) (c .before .loop .inv .5)

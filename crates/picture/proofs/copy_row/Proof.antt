@@ -3,7 +3,7 @@
 use Prim.Native.Nat.{_+_, _*_, _≤_}
 use native.Mathlib.Omega.{arith}
 use borrow.Author.Needs.{needs}
-use Rattle.picture.proofs.Parts.{more-rows}
+use Rattle.lists.proofs.Parts.{more-rows}
 use Rattle.picture.proofs.Regions.{slot-small}
 use Rattle.picture.proofs.Slots.{row-copied}
 use Rattle.picture.proofs.copy_row.Statement.{statement}

@@ -8,7 +8,7 @@ use lib.ListN.{length}
 use Rattle.panel.specs.Dots.{dot}
 use Rattle.panel.proofs.Dots.{dot-lt}
 use Rattle.picture.specs.Slots.{painted}
-use Rattle.picture.proofs.Parts.{more-rows}
+use Rattle.lists.proofs.Parts.{more-rows}
 use Rattle.picture.proofs.Slots.{painted-none, row-more}
 use Rattle.picture.proofs.paint_rows.Statement.{statement}
 use Rattle.picture.proofs.paint_rows.Tie as tie

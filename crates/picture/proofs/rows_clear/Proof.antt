@@ -8,7 +8,7 @@ use borrow.Author.Needs.{needs}
 use lib.Pow.{pow-pos}
 use Rattle.lists.specs.Rules.{allBelow}
 use Rattle.picture.specs.Regions.{rowClear, payloadRow}
-use Rattle.picture.proofs.Parts.{more-rows}
+use Rattle.lists.proofs.Parts.{more-rows}
 use Rattle.picture.proofs.Regions.{byte-power, row-clear, row-dirty}
 use Rattle.picture.proofs.rows_clear.Statement.{statement}
 use Rattle.picture.proofs.rows_clear.Tie as tie

@@ -3,41 +3,36 @@ use Rattle.run.proofs.start_valid.Tie as tie
 use Rattle.run.proofs.start_valid.Reads as reads
 use Rattle.run.proofs.start_valid.Lts as lts
 use Rattle.run.proofs.after_write.Reads as after-write-reads
-use Rattle.settings.proofs.panel_of.Reads as panel-of-reads
 
--- src/lib.rt:216:13
+-- src/lib.rt:232:13
 shared-slice-read-n : tie.Need-shared-slice-read-n
 shared-slice-read-n c = ?
 
--- src/lib.rt:216:13
+-- src/lib.rt:232:13
 cast-n : tie.Need-cast-n
 cast-n c = ?
 
--- src/lib.rt:218:9
+-- src/lib.rt:234:9
 returns : tie.Need-returns
 returns c = ?
 
--- src/lib.rt:220:27
-panel-of-requires : tie.Need-panel-of-requires
-panel-of-requires c κs = ?
-
--- src/lib.rt:220:9
+-- src/lib.rt:236:9
 after-write-requires : tie.Need-after-write-requires
 after-write-requires c κs = ?
 
--- src/lib.rt:221:9
+-- src/lib.rt:237:9
 returns-2 : tie.Need-returns-2
 returns-2 c = ?
 
--- src/lib.rt:224:9
+-- src/lib.rt:240:9
 returns-3 : tie.Need-returns-3
 returns-3 c = ?
 
--- src/lib.rt:227:9
+-- src/lib.rt:243:9
 returns-4 : tie.Need-returns-4
 returns-4 c = ?
 
--- src/lib.rt:212:1
+-- src/lib.rt:228:1
 returns-5 : tie.Need-returns-5
 returns-5 c = ?
 
@@ -48,7 +43,6 @@ start-valid-spec =
     shared-slice-read-n
     cast-n
     returns
-    panel-of-requires
     after-write-requires
     returns-2
     returns-3

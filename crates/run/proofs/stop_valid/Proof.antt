@@ -3,57 +3,52 @@ use Rattle.run.proofs.stop_valid.Statement.{statement}
 use Rattle.run.proofs.stop_valid.Tie as tie
 use Rattle.run.proofs.stop_valid.Reads as reads
 use Rattle.run.proofs.stop_valid.Lts as lts
-use Rattle.panel.proofs.frames.Reads as frames-reads
 use Rattle.run.proofs.after_write.Reads as after-write-reads
 use Rattle.run.proofs.frame_before.Reads as frame-before-reads
 use Rattle.run.proofs.frame_due_by.Reads as frame-due-by-reads
-use Rattle.settings.proofs.panel_of.Reads as panel-of-reads
+use Rattle.run.proofs.run_frames.Reads as run-frames-reads
 
--- src/lib.rt:265:9
-panel-of-requires : tie.Need-panel-of-requires
-panel-of-requires c κs = ?
-
--- src/lib.rt:266:13
+-- src/lib.rt:280:13
 shared-slice-read-n : tie.Need-shared-slice-read-n
 shared-slice-read-n c = search needs
 
--- src/lib.rt:266:13
+-- src/lib.rt:280:13
 cast-n : tie.Need-cast-n
 cast-n c = ?
 
--- src/lib.rt:268:9
+-- src/lib.rt:282:9
 returns : tie.Need-returns
 returns c = ?
 
--- src/lib.rt:270:34
+-- src/lib.rt:284:27
 add-after-write : tie.Need-add-after-write
 add-after-write c = search needs
 
--- src/lib.rt:270:9
+-- src/lib.rt:284:9
 after-write-requires : tie.Need-after-write-requires
-after-write-requires c κs = ?
+after-write-requires c κs = search needs
 
--- src/lib.rt:271:9
+-- src/lib.rt:285:9
 returns-2 : tie.Need-returns-2
 returns-2 c = ?
 
--- src/lib.rt:273:42
-frames-requires : tie.Need-frames-requires
-frames-requires c κs = ?
+-- src/lib.rt:287:42
+run-frames-requires : tie.Need-run-frames-requires
+run-frames-requires c κs = search needs
 
--- src/lib.rt:273:38
+-- src/lib.rt:287:38
 mul-frame-before : tie.Need-mul-frame-before
 mul-frame-before c = search needs
 
--- src/lib.rt:273:25
+-- src/lib.rt:287:25
 frame-before-requires : tie.Need-frame-before-requires
 frame-before-requires c κs = ?
 
--- src/lib.rt:273:5
+-- src/lib.rt:287:5
 frame-due-by-requires : tie.Need-frame-due-by-requires
 frame-due-by-requires c κs = search needs
 
--- src/lib.rt:259:1
+-- src/lib.rt:274:1
 returns-3 : tie.Need-returns-3
 returns-3 c = ?
 
@@ -61,14 +56,13 @@ pub stop-valid-spec : {M : Type 1} → statement M
 stop-valid-spec =
     tie.close
     (tie.spec
-    panel-of-requires
     shared-slice-read-n
     cast-n
     returns
     add-after-write
     after-write-requires
     returns-2
-    frames-requires
+    run-frames-requires
     mul-frame-before
     frame-before-requires
     frame-due-by-requires

@@ -10,7 +10,7 @@ use Rattle.lists.specs.Lists.{overlayAt}
 use Rattle.panel.specs.Dots.{rowDot}
 use Rattle.wire.specs.Registers.{registerWrite}
 use Rattle.wire.specs.Line.{line, handedLine}
-use Rattle.wire.proofs.Overlays.{overlay-part, overlay-three}
+use Rattle.lists.proofs.Parts.{overlay-part, overlay-three}
 use Rattle.wire.proofs.Line.{length-line}
 use Rattle.wire.proofs.hand_out_line.Statement.{statement}
 use Rattle.wire.proofs.hand_out_line.Tie as tie

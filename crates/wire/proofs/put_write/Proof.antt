@@ -5,7 +5,7 @@ use mathlib.Core.List.{[]}
 use native.Mathlib.Omega.{arith}
 use borrow.Author.Needs.{needs}
 use Rattle.wire.specs.Registers.{registerWrite}
-use Rattle.wire.proofs.Overlays.{overlay-two}
+use Rattle.lists.proofs.Parts.{overlay-two}
 use Rattle.wire.proofs.put_write.Statement.{statement}
 use Rattle.wire.proofs.put_write.Tie as tie
 

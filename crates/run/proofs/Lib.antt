@@ -1,0 +1,6 @@
+-- Laws of the definitions in specs/: `Clock` of tick readings, `Place` of a run's places, `Due` of when the next thing is due,
+-- `Valid` of the conditions on a run.
+pub mod Clock
+pub mod Place
+pub mod Due
+pub mod Valid
