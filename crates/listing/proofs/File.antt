@@ -8,12 +8,11 @@ use native.Mathlib.Omega.{arith}
 use lib.ListN.{length, getD, drop, length-append}
 use Rattle.panel.proofs.Panels.{each-panel}
 use Rattle.settings.specs.Settings.{panelOf, startCount, stopCount, stopSteps, stepsOf, settingsGood}
-use Rattle.settings.specs.Facts.{StopAt}
+use Rattle.settings.specs.Facts.{Accepted, StopAt}
 use Rattle.settings.proofs.Sections.{stop-count, stop-steps}
 use Rattle.settings.proofs.Accepted.{good-long, good-panel, good-starts, good-stops}
 use Rattle.listing.specs.Text.{ascii, newline, decimal}
 use Rattle.listing.specs.Listing.{panelLine, stepLines, sectionLines, fileLines, listing}
-use Rattle.listing.specs.Accepted.{Accepted}
 use Rattle.listing.proofs.Text.{decimal-short}
 use Rattle.listing.proofs.Steps.{lines-short}
 
@@ -39,7 +38,7 @@ pub record Counts (file : List ℕ) (stop : ℕ) : Type 0 where
 
 module _ (file : List ℕ) (stop : ℕ) (a : Accepted file stop) where
   here : StopAt file stop
-  here = record { within = omega (arith, a .inside); rest = a .section }
+  here = record { within = omega (arith, a .within); rest = a .rest }
 
   pub counts : Counts file stop
   counts =

@@ -1,5 +1,7 @@
--- `Appended` has the laws of text behind text, `Text` those of numbers as text, `Steps` and `File` those of the lines.
+-- `Appended` has the laws of text behind text, `Text` those of numbers as text, `Steps` and `File` those of the lines; `Examples` is
+-- document 01's.
 pub mod Appended
 pub mod Text
 pub mod Steps
 pub mod File
+pub mod Examples

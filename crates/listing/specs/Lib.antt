@@ -2,4 +2,3 @@
 pub mod Text
 pub mod Listing
 pub mod Appended
-pub mod Accepted

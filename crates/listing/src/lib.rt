@@ -16,7 +16,7 @@ ghost use Rattle.listing.specs.Listing.{
   listed,
 };
 ghost use Rattle.listing.specs.Appended.{Appended};
-ghost use Rattle.listing.specs.Accepted.{Accepted};
+ghost use Rattle.settings.specs.Facts.{Accepted};
 
 // Puts text into `out` from index `at` on, and answers the index behind it. All functions here do so, each with its own text.
 fn put_text(out: &mut [u8], at: usize, text: &[u8]) -> usize

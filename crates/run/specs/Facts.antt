@@ -1,11 +1,9 @@
 -- How the code's values stand for those of the definitions, and what a caller shows.
 -- Assumes nothing.
-use Prim.Native.Nat.{ℕ, _≤_, _<_}
+use Prim.Native.Nat.{ℕ, _≤_}
 use mathlib.Core.Path.{_≡_}
 use mathlib.Core.Bool.{Bool, true, false}
 use mathlib.Core.List.{List}
-use lib.ListN.{length, drop}
-use Rattle.settings.specs.Settings.{stopSection, settingsGood}
 use Rattle.settings.specs.declared.Kind.{Kind}
 use Rattle.settings.specs.declared.Kind.the-variants.{Write, Wait, Malformed}
 use Rattle.run.specs.Conditions.{placeValid}
@@ -17,12 +15,6 @@ abbrev pub kindIsWrite : Kind → Bool
 kindIsWrite (Write register) = true
 kindIsWrite (Wait ms) = false
 kindIsWrite Malformed = false
-
--- an accepted file, and the index of its stop section
-pub record Accepted (file : List ℕ) (stop : ℕ) : Type 0 where
-  pub good : settingsGood file ≡ true
-  pub within : stop < length file
-  pub rest : drop stop file ≡ stopSection file
 
 -- a run at a valid place, at a moment no earlier than the call that handed out its last thing
 pub record Ready (file : List ℕ) (run : Run) (place : Position) (moment : Passed) : Type 0 where

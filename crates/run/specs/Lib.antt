@@ -3,4 +3,5 @@ pub mod Clock
 pub mod Place
 pub mod Due
 pub mod Conditions
+pub mod Runs
 pub mod Facts

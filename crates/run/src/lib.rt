@@ -11,7 +11,8 @@ ghost use Rattle.run.specs.Clock.{stepFrom, readingOf};
 ghost use Rattle.run.specs.Place.{frameNumber, nextPosition};
 ghost use Rattle.run.specs.Due.{runFrames, frameDue, dueAt, dueOf};
 ghost use Rattle.run.specs.Conditions.{afterWrite, placeValid, runValid};
-ghost use Rattle.run.specs.Facts.{kindIsWrite, Accepted, Ready};
+ghost use Rattle.run.specs.Facts.{kindIsWrite, Ready};
+ghost use Rattle.settings.specs.Facts.{Accepted};
 use settings::Kind;
 
 // A tick reading: a millisecond counter that wraps.
@@ -137,14 +138,14 @@ fn waits_from(file: &[u8], at: usize, n: usize, k: u32) -> u32
     found.waits
 }
 
-// From start step k on.
+// From start step k on: the waits count from what was handed out last.
 fn start_to_go(file: &[u8], run: Run, k: u32, moment: Passed) -> u32
     requires { ⌜ (settingsGood (now file) ≡ true) × (Ready (now file) run (Position.Start k) moment) ⌝ }
     ensures { λ r. ⌜ r ≡ dueAt (now (file .entry)) run (Position.Start k) - moment .0 ⌝ }
 {
-    let handed = run.handed;
+    let from = run.handed;
     let waits = waits_from(file, 3, file[2] as usize, k);
-    remaining(handed, waits, moment)
+    remaining(from, waits, moment)
 }
 
 // At a line: the first of a frame waits for its moment.
@@ -152,12 +153,12 @@ fn line_to_go(file: &[u8], run: Run, stage: u32, frame: u32, row: u32, moment: P
     requires { ⌜ (settingsGood (now file) ≡ true) × (Ready (now file) run (Position.Line stage frame row) moment) ⌝ }
     ensures { λ r. ⌜ r ≡ dueAt (now (file .entry)) run (Position.Line stage frame row) - moment .0 ⌝ }
 {
-    if row != 0 {
-        return 0;
+    if row == 0 {
+        let from = run.first;
+        let i = frame_number(run_frames(file), stage, frame);
+        return remaining(from, 30 * i, moment);
     }
-    let first = run.first;
-    let i = frame_number(run_frames(file), stage, frame);
-    remaining(first, 30 * i, moment)
+    0
 }
 
 // From stop step k on: the waits count from the end of the last frame and from what was handed out last.
@@ -226,7 +227,7 @@ fn frame_due_by(first: Passed, i: u32, moment: Passed) -> bool
     (30 * i) as u64 <= moment.0 - first.0
 }
 
-// The frame of what stands before the first thing (number 0) or a later thing of frame i.
+// The frame of the line that went out before something of frame i: the one before it for the first thing, of number 0.
 fn frame_before(i: u32, number: u32) -> u32
     requires { ⌜ 0 < i + number ⌝ }
     ensures { λ r. ⌜ r ≡ i - cond (eqb number 0) 1 0 ⌝ }

@@ -110,7 +110,8 @@ module _ (file : List ℕ) where
       → LaidOut file (record { ok = true; stop = stop })
   laid-out begins head start rest =
       let some : 0 < length (stopSection file) = ltb-true _ _ (holds 0 (stopRules file) rest) in
+      let good : settingsGood file ≡ true = good-parts ∙ rw (head, start, rest) in
       record {
-        good = sym (good-parts ∙ rw (head, start, rest));
-        stop = λ t. (omega (arith, stop-length begins), begins .rest);
+        good = sym good;
+        stop = λ t. record { good = good; within = omega (arith, stop-length begins); rest = begins .rest };
       }

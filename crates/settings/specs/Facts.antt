@@ -58,6 +58,12 @@ pub record StopAt (file : List ℕ) (stop : ℕ) : Type 0 where
   pub within : stop ≤ length file
   pub rest : drop stop file ≡ stopSection file
 
+-- an accepted file, and the index at which its stop section begins
+pub record Accepted (file : List ℕ) (stop : ℕ) : Type 0 where
+  pub good : settingsGood file ≡ true
+  pub within : stop < length file
+  pub rest : drop stop file ≡ stopSection file
+
 -- whether the start steps keep their rules, and where the stop section begins
 pub record StartPassed (file : List ℕ) (r : StepsEnd) : Type 0 where
   pub good : r .ok ≡ every (startRules file)
@@ -66,7 +72,7 @@ pub record StartPassed (file : List ℕ) (r : StepsEnd) : Type 0 where
 -- whether a file is accepted, and where its stop section begins
 pub record LaidOut (file : List ℕ) (r : Layout) : Type 0 where
   pub good : r .ok ≡ settingsGood file
-  pub stop : r .ok ≡ true → (r .stop < length file) × (drop (r .stop) file ≡ stopSection file)
+  pub stop : r .ok ≡ true → Accepted file (r .stop)
 
 -- the next write among the steps: the waits before it, where it stands in the file, and how many steps are left from it on
 pub record Found (panel : ℕ) (file : List ℕ) (steps : List Step) (r : NextWrite) : Type 0 where

@@ -41,7 +41,7 @@ put-section-requires-2 c κs =
     let file = c .before .before .before .before .before .before .before .before .before .before .before .before .before .before .args .file .now in
     let head : c .before .before .before .before .before .before .before .before .before .put-panel-line .result ≤ 11 = omega (arith, c .before .before .before .before .before .before .before .before .before .put-panel-line .ensures .behind, panel-short (c .before .before .before .before .before .before .before .before .before .before .before .panel-of .result) known) in
     let starts = section-short (ascii "start ") (c .before .before .before .before .before .before .before .before .before .before .before .panel-of .result) (getD file 2 0) (drop 3 file) (omega arith) (k .starts) in
-    (known, c .before .before .before .before .before .before .before .before .before .before .before .before .before .before .pre .1 .inside, k .stops, omega arith, omega (arith, c .before .before .before .before .put-section .ensures .behind, starts))
+    (known, c .before .before .before .before .before .before .before .before .before .before .before .before .before .before .pre .1 .within, k .stops, omega arith, omega (arith, c .before .before .before .before .put-section .ensures .behind, starts))
 
 same-length : tie.Need-same-length
 same-length c = search needs

@@ -26,10 +26,7 @@ returns c =
     appended-as (listing-bad (c .before .before .before .before .before .before .before .before .before .before .args .file .now) (sym (c .before .before .before .before .before .before .before .laid-out .ensures .good) ∙ not-true _ (c .before .before .before .before .before .if1 .taken))) (c .before .before .put-text .ensures)
 
 put-file-requires : tie.Need-put-file-requires
-put-file-requires c κs =
-    let good = not-false _ (c .before .if1 .left) in
-    let stop = c .before .before .before .laid-out .ensures .stop good in
-    (omega arith, record { good = sym (c .before .before .before .laid-out .ensures .good) ∙ good; inside = stop .0; section = stop .1 })
+put-file-requires c κs = (omega arith, c .before .before .before .laid-out .ensures .stop (not-false _ (c .before .if1 .left)))
 
 same-length-2 : tie.Need-same-length-2
 same-length-2 c = search needs

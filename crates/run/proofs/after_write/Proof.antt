@@ -1,44 +1,43 @@
+-- `after_write` meets its contract: step k - 1 stands where k - 1 steps were passed. Assumes nothing.
+use denote.Ref.{now}
+use lib.ListN.{drop}
+use native.Mathlib.Omega.{arith}
+use Rattle.settings.specs.Settings.{panelOf, stepsOf}
+use Rattle.settings.proofs.Accepted.{good-long, good-panel}
+use Rattle.run.proofs.Valid.{first-step, later-step}
 use borrow.Author.Needs.{needs}
 use Rattle.run.proofs.after_write.Statement.{statement}
 use Rattle.run.proofs.after_write.Tie as tie
-use Rattle.run.proofs.after_write.Reads as reads
-use Rattle.run.proofs.after_write.Lts as lts
-use Rattle.run.proofs.is_write.Reads as is-write-reads
-use Rattle.settings.proofs.panel_of.Reads as panel-of-reads
-use Rattle.settings.proofs.pass_steps.Reads as pass-steps-reads
-use Rattle.settings.proofs.step_at.Reads as step-at-reads
 
--- src/lib.rt:198:9
 returns : tie.Need-returns
-returns c = ?
+returns c =
+    let a = c .before .before .args in
+    first-step (stepsOf (panelOf (now (a .file))) (a .n) (drop (a .at) (now (a .file)))) (a .k) (c .if1 .taken)
 
--- src/lib.rt:200:9
 panel-of-requires : tie.Need-panel-of-requires
-panel-of-requires c κs = ?
+panel-of-requires c κs = omega (arith, good-long _ (c .before .before .pre .0))
 
--- src/lib.rt:201:57
 sub-pass-steps : tie.Need-sub-pass-steps
 sub-pass-steps c = search needs
 
--- src/lib.rt:201:56
 cast-pass-steps : tie.Need-cast-pass-steps
 cast-pass-steps c = search needs
 
--- src/lib.rt:201:9
 pass-steps-requires : tie.Need-pass-steps-requires
-pass-steps-requires c κs = ?
+pass-steps-requires c κs = (omega (arith, good-panel _ (c .before .before .before .pre .0), c .panel-of .ensures), c .before .before .before .pre .1)
 
--- src/lib.rt:203:14
 step-at-requires : tie.Need-step-at-requires
-step-at-requires c κs = ?
+step-at-requires c κs = (omega (arith, good-panel _ (c .before .before .before .before .pre .0), c .before .panel-of .ensures), c .pass-steps .ensures .within)
 
--- src/lib.rt:203:5
 is-write-requires : tie.Need-is-write-requires
 is-write-requires c κs = search needs
 
--- src/lib.rt:193:1
 returns-2 : tie.Need-returns-2
-returns-2 c = ?
+returns-2 c =
+    let a = c .before .before .before .before .before .before .args in
+    let passed = rw (c .before .before .before .panel-of .ensures) at (c .before .before .pass-steps .ensures) in
+    let read = rw (c .before .before .before .panel-of .ensures) at (c .before .step-at .ensures) in
+    later-step (panelOf (now (a .file))) (a .n) (a .k) (a .at) (c .before .before .pass-steps .result .end) (now (a .file)) (c .before .before .before .before .if1 .left) (c .before .before .before .before .before .before .pre .2) (passed .rest) read (c .is-write .ensures)
 
 pub after-write-spec : {M : Type 1} → statement M
 after-write-spec =

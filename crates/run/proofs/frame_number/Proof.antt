@@ -1,24 +1,28 @@
+-- `frame_number` meets its contract: there are 4N frames. Assumes nothing.
+use mathlib.Core.Path.{refl}
+use native.Mathlib.Omega.{arith}
+use Rattle.run.proofs.Place.{frame-lt}
 use borrow.Author.Needs.{needs}
 use Rattle.run.proofs.frame_number.Statement.{statement}
 use Rattle.run.proofs.frame_number.Tie as tie
-use Rattle.run.proofs.frame_number.Reads as reads
-use Rattle.run.proofs.frame_number.Lts as lts
 
--- src/lib.rt:95:6
 sub-result : tie.Need-sub-result
 sub-result c = search needs
 
--- src/lib.rt:95:5
 mul-result : tie.Need-mul-result
-mul-result c = ?
+mul-result c =
+    let a = c .args in
+    omega (arith, frame-lt (a .frames) (a .stage) (a .frame) (c .pre .1) (c .pre .2))
 
--- src/lib.rt:95:5
 add-result : tie.Need-add-result
-add-result c = ?
+add-result c =
+    let a = c .args in
+    omega (arith, frame-lt (a .frames) (a .stage) (a .frame) (c .pre .1) (c .pre .2))
 
--- src/lib.rt:91:1
 returns : tie.Need-returns
-returns c = ?
+returns c =
+    let a = c .args in
+    (refl, omega (arith, frame-lt (a .frames) (a .stage) (a .frame) (c .pre .1) (c .pre .2)))
 
 pub frame-number-spec : {M : Type 1} → statement M
 frame-number-spec = tie.close (tie.spec sub-result mul-result add-result returns)

@@ -1,43 +1,52 @@
+-- `line_to_go` meets its contract. Assumes nothing.
+use denote.Ref.{now}
+use native.Mathlib.Omega.{arith}
+use Rattle.run.proofs.Due.{due-frame, due-later}
+use Rattle.run.proofs.Valid.{at-line}
 use borrow.Author.Needs.{needs}
 use Rattle.run.proofs.line_to_go.Statement.{statement}
 use Rattle.run.proofs.line_to_go.Tie as tie
-use Rattle.run.proofs.line_to_go.Reads as reads
-use Rattle.run.proofs.line_to_go.Lts as lts
-use Rattle.run.proofs.frame_number.Reads as frame-number-reads
-use Rattle.run.proofs.remaining.Reads as remaining-reads
-use Rattle.run.proofs.run_frames.Reads as run-frames-reads
 
--- src/lib.rt:144:9
-returns : tie.Need-returns
-returns c = ?
-
--- src/lib.rt:147:26
 run-frames-requires : tie.Need-run-frames-requires
 run-frames-requires c κs = search needs
 
--- src/lib.rt:147:9
 frame-number-requires : tie.Need-frame-number-requires
-frame-number-requires c κs = ?
+frame-number-requires c κs =
+    let a = c .before .before .before .before .args in
+    let line = at-line (now (a .file)) (a .run) (a .stage) (a .frame) (a .row) (c .before .before .before .before .pre .1 .valid) in
+    (line .low, line .high, omega (arith, c .run-frames .ensures .0, line .frames), c .run-frames .ensures .1)
 
--- src/lib.rt:148:22
 mul-remaining : tie.Need-mul-remaining
 mul-remaining c = search needs
 
--- src/lib.rt:148:5
 remaining-requires : tie.Need-remaining-requires
-remaining-requires c κs = ?
+remaining-requires c κs =
+    let a = c .before .before .before .before .before .args in
+    let line = at-line (now (a .file)) (a .run) (a .stage) (a .frame) (a .row) (c .before .before .before .before .before .pre .1 .valid) in
+    omega (arith, line .due, c .before .before .before .before .before .pre .1 .order)
 
--- src/lib.rt:139:1
+returns : tie.Need-returns
+returns c =
+    let a = c .before .before .before .before .before .before .args in
+    let i = rw (c .before .before .run-frames .ensures .0) at (c .before .frame-number .ensures .0) in
+    omega (
+      arith,
+      due-frame (now (a .file)) (a .run) (a .stage) (a .frame) (a .row) (c .before .before .before .before .if1 .taken),
+      c .remaining .ensures,
+    )
+
 returns-2 : tie.Need-returns-2
-returns-2 c = ?
+returns-2 c =
+    let a = c .before .before .args in
+    omega (arith, due-later (now (a .file)) (a .run) (a .stage) (a .frame) (a .row) (c .if1 .left), c .before .before .pre .1 .order)
 
 pub line-to-go-spec : {M : Type 1} → statement M
 line-to-go-spec =
     tie.close
     (tie.spec
-    returns
     run-frames-requires
     frame-number-requires
     mul-remaining
     remaining-requires
+    returns
     returns-2)

@@ -1,66 +1,82 @@
+-- `line_valid` meets its contract, rule by rule. Assumes nothing.
+use mathlib.Core.Path.{sym, _∙_}
+use Prim.Native.Nat.{_+_}
+use denote.Ref.{now}
+use native.Mathlib.Omega.{arith}
+use borrow.Author.Tests.{lt-leb, le-ltb}
+use Rattle.lists.proofs.Rules.{broken}
+use Rattle.panel.specs.Panels.{rowsOf}
+use Rattle.settings.specs.Settings.{panelOf}
+use Rattle.settings.proofs.Accepted.{good-long, good-panel}
+use Rattle.run.specs.Place.{frameNumber}
+use Rattle.run.specs.Due.{runFrames}
+use Rattle.run.specs.Conditions.{lineRules}
+use Rattle.run.proofs.Valid.{line-ranged}
 use borrow.Author.Needs.{needs}
 use Rattle.run.proofs.line_valid.Statement.{statement}
 use Rattle.run.proofs.line_valid.Tie as tie
-use Rattle.run.proofs.line_valid.Reads as reads
-use Rattle.run.proofs.line_valid.Lts as lts
-use Rattle.panel.proofs.rows.Reads as rows-reads
-use Rattle.run.proofs.frame_before.Reads as frame-before-reads
-use Rattle.run.proofs.frame_due_by.Reads as frame-due-by-reads
-use Rattle.run.proofs.frame_number.Reads as frame-number-reads
-use Rattle.run.proofs.run_frames.Reads as run-frames-reads
-use Rattle.settings.proofs.panel_of.Reads as panel-of-reads
 
--- src/lib.rt:254:9
 run-frames-requires : tie.Need-run-frames-requires
 run-frames-requires c κs = search needs
 
--- src/lib.rt:256:9
 returns : tie.Need-returns
-returns c = ?
+returns c =
+    let a = c .before .before .before .before .before .args in
+    sym (broken 0 (lineRules (now (a .file)) (a .run) (a .stage) (a .frame) (a .row)) (lt-leb _ _ (c .if1 .taken)))
 
--- src/lib.rt:259:9
 returns-2 : tie.Need-returns-2
-returns-2 c = ?
+returns-2 c =
+    let a = c .before .before .before .before .before .before .args in
+    sym (broken 1 (lineRules (now (a .file)) (a .run) (a .stage) (a .frame) (a .row)) (lt-leb _ _ (c .if2 .taken)))
 
--- src/lib.rt:262:9
 returns-3 : tie.Need-returns-3
-returns-3 c = ?
+returns-3 c =
+    let a = c .before .before .before .before .before .before .before .args in
+    let late = le-ltb (a .frame) (runFrames (now (a .file))) (omega (arith, c .if3 .taken, c .before .before .before .run-frames .ensures .0)) in
+    sym (broken 2 (lineRules (now (a .file)) (a .run) (a .stage) (a .frame) (a .row)) late)
 
--- src/lib.rt:264:20
 panel-of-requires : tie.Need-panel-of-requires
-panel-of-requires c κs = ?
+panel-of-requires c κs = omega (arith, good-long _ (c .before .before .before .before .before .before .before .pre))
 
--- src/lib.rt:264:8
 rows-requires : tie.Need-rows-requires
-rows-requires c κs = ?
+rows-requires c κs = omega (arith, good-panel _ (c .before .before .before .before .before .before .before .before .pre), c .panel-of .ensures)
 
--- src/lib.rt:265:9
 returns-4 : tie.Need-returns-4
-returns-4 c = ?
+returns-4 c =
+    let a = c .before .before .before .before .before .before .before .before .before .before .args in
+    let n = rw (c .before .before .panel-of .ensures) at (c .before .rows .ensures .0) in
+    let low = le-ltb (a .row) (rowsOf (panelOf (now (a .file)))) (omega (arith, c .if4 .taken)) in
+    sym (broken 3 (lineRules (now (a .file)) (a .run) (a .stage) (a .frame) (a .row)) low)
 
--- src/lib.rt:267:9
 frame-number-requires : tie.Need-frame-number-requires
 frame-number-requires c κs = search needs
 
--- src/lib.rt:268:8
 add-if5 : tie.Need-add-if5
 add-if5 c = search needs
 
--- src/lib.rt:269:9
 returns-5 : tie.Need-returns-5
-returns-5 c = ?
+returns-5 c =
+    let a = c .before .before .before .before .before .before .before .before .before .before .before .before .args in
+    let i = rw (c .before .before .before .before .before .before .before .before .run-frames .ensures .0) at (c .before .frame-number .ensures .0) in
+    let none = le-ltb 0 (frameNumber (runFrames (now (a .file))) (a .stage) (a .frame) + a .row) (omega (arith, c .if5 .taken)) in
+    sym (broken 4 (lineRules (now (a .file)) (a .run) (a .stage) (a .frame) (a .row)) none)
 
--- src/lib.rt:271:25
 frame-before-requires : tie.Need-frame-before-requires
 frame-before-requires c κs = search needs
 
--- src/lib.rt:271:5
 frame-due-by-requires : tie.Need-frame-due-by-requires
 frame-due-by-requires c κs = search needs
 
--- src/lib.rt:248:1
 returns-6 : tie.Need-returns-6
-returns-6 c = ?
+returns-6 c =
+    let a = c .before .before .before .before .before .before .before .before .before .before .before .before .before .before .args in
+    let n = rw (c .before .before .before .before .before .before .panel-of .ensures) at (c .before .before .before .before .before .rows .ensures .0) in
+    let i = rw (c .before .before .before .before .before .before .before .before .before .before .run-frames .ensures .0) at (c .before .before .before .frame-number .ensures .0) in
+    c .frame-due-by .ensures
+    ∙ rw (c .before .frame-before .ensures, i)
+    (sym
+    (line-ranged (now (a .file)) (a .run) (a .stage) (a .frame) (a .row) (c .before .before .before .before .before .before .before .before .before .if1 .left) (c .before .before .before .before .before .before .before .before .if2 .left)
+    (omega (arith, c .before .before .before .before .before .before .before .if3 .left, c .before .before .before .before .before .before .before .before .before .before .run-frames .ensures .0)) (omega (arith, c .before .before .before .before .if4 .left)) (omega (arith, c .before .before .if5 .left))))
 
 pub line-valid-spec : {M : Type 1} → statement M
 line-valid-spec =

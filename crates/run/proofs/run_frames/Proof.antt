@@ -1,20 +1,16 @@
+-- `run_frames` meets its contract. Assumes nothing.
+use native.Mathlib.Omega.{arith}
+use Rattle.settings.proofs.Accepted.{good-long, good-panel}
 use borrow.Author.Needs.{needs}
 use Rattle.run.proofs.run_frames.Statement.{statement}
 use Rattle.run.proofs.run_frames.Tie as tie
-use Rattle.run.proofs.run_frames.Reads as reads
-use Rattle.run.proofs.run_frames.Lts as lts
-use Rattle.panel.proofs.frames.Reads as frames-reads
-use Rattle.settings.proofs.panel_of.Reads as panel-of-reads
 
--- src/lib.rt:96:19
 panel-of-requires : tie.Need-panel-of-requires
-panel-of-requires c κs = ?
+panel-of-requires c κs = omega (arith, good-long _ (c .before .pre))
 
--- src/lib.rt:96:5
 frames-requires : tie.Need-frames-requires
-frames-requires c κs = ?
+frames-requires c κs = omega (arith, good-panel _ (c .before .before .pre), c .panel-of .ensures)
 
--- src/lib.rt:92:1
 returns : tie.Need-returns
 returns c = search needs
 

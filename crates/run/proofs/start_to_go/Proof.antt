@@ -1,28 +1,27 @@
+-- `start_to_go` meets its contract. Assumes nothing.
+use denote.Ref.{now}
+use native.Mathlib.Omega.{arith}
+use Rattle.settings.proofs.Accepted.{good-long, good-starts}
+use Rattle.run.proofs.Valid.{at-start}
 use borrow.Author.Needs.{needs}
 use Rattle.run.proofs.start_to_go.Statement.{statement}
 use Rattle.run.proofs.start_to_go.Tie as tie
-use Rattle.run.proofs.start_to_go.Reads as reads
-use Rattle.run.proofs.start_to_go.Lts as lts
-use Rattle.run.proofs.remaining.Reads as remaining-reads
-use Rattle.run.proofs.waits_from.Reads as waits-from-reads
 
--- src/lib.rt:134:37
 shared-slice-read-waits-from : tie.Need-shared-slice-read-waits-from
-shared-slice-read-waits-from c = ?
+shared-slice-read-waits-from c = omega (arith, good-long _ (c .before .before .before .pre .0))
 
--- src/lib.rt:134:37
 cast-waits-from : tie.Need-cast-waits-from
-cast-waits-from c = ?
+cast-waits-from c = omega (arith, c .shared-slice-known2 .given 2)
 
--- src/lib.rt:134:9
 waits-from-requires : tie.Need-waits-from-requires
-waits-from-requires c κs = ?
+waits-from-requires c κs =
+    let pre = c .before .before .before .pre in
+    let a = c .before .before .before .args in
+    (pre .0, good-long _ (pre .0), good-starts _ (pre .0), at-start (now (a .file)) (a .run) (a .k) (pre .1 .valid) .few)
 
--- src/lib.rt:135:5
 remaining-requires : tie.Need-remaining-requires
 remaining-requires c κs = search needs
 
--- src/lib.rt:129:1
 returns : tie.Need-returns
 returns c = search needs
 

@@ -1,55 +1,71 @@
+-- `stop_to_go` meets its contract: the later of the two moments. Assumes nothing.
+use mathlib.Core.Path.{ap}
+use denote.Ref.{now}
+use lib.ListN.{drop}
+use native.Mathlib.Omega.{arith}
+use Rattle.settings.specs.Steps.{waitsBefore}
+use Rattle.settings.proofs.Accepted.{good-stops}
+use Rattle.run.proofs.Due.{stops-here, steps-here}
+use Rattle.run.proofs.Valid.{at-stop}
 use borrow.Author.Needs.{needs}
 use Rattle.run.proofs.stop_to_go.Statement.{statement}
 use Rattle.run.proofs.stop_to_go.Tie as tie
-use Rattle.run.proofs.stop_to_go.Reads as reads
-use Rattle.run.proofs.stop_to_go.Lts as lts
-use Rattle.run.proofs.remaining.Reads as remaining-reads
-use Rattle.run.proofs.run_frames.Reads as run-frames-reads
-use Rattle.run.proofs.waits_from.Reads as waits-from-reads
 
--- src/lib.rt:158:34
 add-waits-from : tie.Need-add-waits-from
 add-waits-from c = search needs
 
--- src/lib.rt:158:44
 shared-slice-read-waits-from : tie.Need-shared-slice-read-waits-from
 shared-slice-read-waits-from c = search needs
 
--- src/lib.rt:158:44
 cast-waits-from : tie.Need-cast-waits-from
-cast-waits-from c = ?
+cast-waits-from c = omega (arith, c .shared-slice-known2 .given (c .before .before .before .before .args .stop))
 
--- src/lib.rt:158:9
 waits-from-requires : tie.Need-waits-from-requires
-waits-from-requires c κs = ?
+waits-from-requires c κs =
+    let pre = c .before .before .before .before .pre in
+    let a = c .before .before .before .before .args in
+    let at = at-stop (now (a .file)) (a .run) (a .k) (pre .1 .valid) in
+    let n = stops-here (pre .0) in
+    (pre .0 .good, omega (arith, pre .0 .within), omega (arith, good-stops _ (pre .0 .good)), omega (arith, at .few))
 
--- src/lib.rt:159:44
 run-frames-requires : tie.Need-run-frames-requires
 run-frames-requires c κs = search needs
 
--- src/lib.rt:159:38
 mul-remaining : tie.Need-mul-remaining
 mul-remaining c = search needs
 
--- src/lib.rt:159:38
 add-remaining : tie.Need-add-remaining
 add-remaining c = search needs
 
--- src/lib.rt:159:9
 remaining-requires : tie.Need-remaining-requires
-remaining-requires c κs = ?
+remaining-requires c κs =
+    let a = c .before .before .before .before .before .before .args in
+    omega (arith, at-stop (now (a .file)) (a .run) (a .k) (c .before .before .before .before .before .before .pre .1 .valid) .due, c .before .before .before .before .before .before .pre .1 .order)
 
--- src/lib.rt:160:9
 remaining-requires-2 : tie.Need-remaining-requires-2
 remaining-requires-2 c κs = search needs
 
--- src/lib.rt:162:9
 returns : tie.Need-returns
-returns c = ?
+returns c =
+    omega (
+      arith,
+      ap (λ steps. waitsBefore (drop (c .before .before .before .before .before .before .before .before .before .args .k) steps)) (steps-here (c .before .before .before .before .before .before .before .before .before .pre .0)),
+      c .before .before .before .before .waits-from .ensures .0,
+      c .before .before .before .run-frames .ensures .0,
+      c .before .before .remaining .ensures,
+      c .before .remaining2 .ensures,
+    )
 
--- src/lib.rt:152:1
 returns-2 : tie.Need-returns-2
-returns-2 c = ?
+returns-2 c =
+    omega (
+      arith,
+      ap (λ steps. waitsBefore (drop (c .before .before .before .before .before .before .before .before .before .args .k) steps)) (steps-here (c .before .before .before .before .before .before .before .before .before .pre .0)),
+      c .before .before .before .before .waits-from .ensures .0,
+      c .before .before .before .run-frames .ensures .0,
+      c .before .before .remaining .ensures,
+      c .before .remaining2 .ensures,
+    )
 
 pub stop-to-go-spec : {M : Type 1} → statement M
 stop-to-go-spec =

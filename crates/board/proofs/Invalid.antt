@@ -1,0 +1,53 @@
+-- Calls on a state that breaks one of its conditions: they earn 13, whatever else they bring. The empty state is such a state, and
+-- whoever was accepted had another.
+-- Assumes nothing.
+use mathlib.Core.Path.{_≡_, refl, sym, ap, _∙_}
+use mathlib.Core.Bool.{Bool, true, false, false≢true}
+use mathlib.Core.List.{List}
+use Prim.Native.Nat.{ℕ}
+use lib.Dec.{eqb}
+use Rattle.lists.proofs.Rules.{broken}
+use Rattle.poll.specs.Answers.{answerNumber}
+use Rattle.board.specs.State.{stateRules, stateValid, emptyState}
+use Rattle.board.specs.Calls.{regionUpload, bitmapUpload, starting, abandoning, polled, bitmapWrite}
+use Rattle.board.specs.History.{Call, uploadRegion, uploadBitmap, start, poll, abandon, writeBitmap, Given, number, answered, isAccepted, callOn}
+use Rattle.board.specs.declared.State.{State}
+use Rattle.board.proofs.Refusals.{givenBy}
+
+-- the number of what a call gave back
+abbrev pub numberGiven : Given → ℕ
+numberGiven (number n) = n
+numberGiven (answered answer) = answerNumber answer
+
+-- ---- a state that breaks a condition earns 13, and accepted calls had a state that breaks none
+
+pub invalid-refused : (state : State) (memory : List ℕ) (call : Call) → stateValid state ≡ false
+    → numberGiven (givenBy (callOn state memory call .seen)) ≡ 13
+unfolding regionUpload bitmapUpload starting abandoning polled bitmapWrite
+invalid-refused state memory (uploadRegion slot x y width height payload) e = rw e
+invalid-refused state memory (uploadBitmap slot file) e = rw e
+invalid-refused state memory (start slot tick) e = rw e
+invalid-refused state memory (poll tick out) e = rw e
+invalid-refused state memory abandon e = rw e
+invalid-refused state memory (writeBitmap slot out) e = rw e
+
+-- the empty state, which has no slots, earns 13 everywhere
+pub empty-refused : (memory : List ℕ) (call : Call) → numberGiven (givenBy (callOn emptyState memory call .seen)) ≡ 13
+unfolding stateValid
+empty-refused memory call = invalid-refused emptyState memory call (broken 2 (stateRules emptyState) refl)
+
+accepted-number : (given : Given) → isAccepted given ≡ eqb (numberGiven given) 0
+accepted-number (number n) = refl
+accepted-number (answered answer) = refl
+
+pub was-valid : (state : State) (memory : List ℕ) (call : Call) → isAccepted (givenBy (callOn state memory call .seen)) ≡ true
+    → stateValid state ≡ true
+was-valid state memory call e = by-validity (stateValid state) refl
+  where
+    by-validity : (b : Bool) → stateValid state ≡ b → b ≡ true
+    by-validity true q = refl
+    by-validity false q =
+        absurd (false≢true
+        (sym (ap (λ (n : ℕ). eqb n 0) (invalid-refused state memory call q))
+        ∙ sym (accepted-number (givenBy (callOn state memory call .seen)))
+        ∙ e))

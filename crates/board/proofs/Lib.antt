@@ -1,0 +1,32 @@
+-- Demand 3 over every list of calls: each call on the store is one move of crate balance. `Cases` has the calls by cases, `Views`
+-- what the sums depend on in a store, `Stores` what 13 and 1 have tested, `Lines` what polls put out. `Uploads`, `Runs` and `Polls`
+-- show that each call is one move, `Opening` what it begins with; `Demand3` has the theorem over a literal list of calls, and `Tied`
+-- the same over the contracts as they stand in the source.
+pub mod Cases
+pub mod Views
+pub mod Stores
+pub mod Lines
+pub mod Uploads
+pub mod Runs
+pub mod Polls
+pub mod Opening
+pub mod Demand3
+pub mod Tied
+-- Theorems over every call: `Refusals` (a refused call changes nothing), `Invalid` (a broken condition earns 13 everywhere), `Kept`
+-- (an accepted call leaves a state free of 13), `RoundTrips` (bitmaps through the calls), `Things`, `Order` and `Progress` (polls hand
+-- out exactly the things of a run, in order). `Worked` is document 01's table of sums checked by hand.
+pub mod Refusals
+pub mod Invalid
+pub mod Kept
+pub mod RoundTrips
+pub mod Things
+pub mod Order
+pub mod Progress
+pub mod Worked
+-- Laws that the proofs of the functions cite.
+pub mod Guard
+pub mod OpenReply
+pub mod Starting
+pub mod Writing
+pub mod Uploading
+pub mod Polling

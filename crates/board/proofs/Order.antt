@@ -1,0 +1,114 @@
+-- Polls hand out the things of a run in order: where something goes out, it is the first of all that is to come, and the others are
+-- still to come; a refusal and a wait answer leave all of it.
+-- Assumes nothing.
+use mathlib.Core.Path.{_≡_, refl, sym, ap, _∙_}
+use mathlib.Core.Bool.{true}
+use mathlib.Core.List.{List, [], _∷_, _++_}
+use Prim.Native.Nat.{ℕ, _+_, _-_, _<_}
+use native.Mathlib.Omega.{arith}
+use lib.ListN.{drop}
+use Rattle.settings.specs.Settings.{Step, panelOf, startSteps, stopSteps, settingsGood}
+use Rattle.settings.specs.Steps.{fromWrite}
+use Rattle.settings.proofs.Accepted.{good-panel, length-starts, length-stops}
+use Rattle.run.specs.Due.{runFrames}
+use Rattle.run.specs.Conditions.{runValid}
+use Rattle.run.specs.declared.Tick.{Tick}
+use Rattle.run.specs.declared.Passed.{Passed}
+use Rattle.run.specs.declared.Position.{Position}
+use Rattle.run.specs.declared.Position.the-variants.{Start, Line, Stop}
+use Rattle.run.specs.declared.Run.{Run}
+use Rattle.run.proofs.Place.{frames-some, rows-some}
+use Rattle.run.proofs.Valid.{valid-line}
+use Rattle.run.proofs.Writes.{all-starts, all-stops}
+use Rattle.poll.specs.HandOut.{Outcome, rowsIn, handStart, handStop, handOut}
+use Rattle.poll.specs.Poll.{pollRun}
+use Rattle.board.specs.Order.{Thing, aWrite, aLine, theEnd, writesOf, stagesFrom, thingsOfRun, thingsFrom, InOrder}
+use Rattle.board.proofs.Cases.{by-run}
+use Rattle.board.proofs.Things.{writes-from, all-from, first-write, behind-write, lines-begin, line-first}
+
+-- at its start, all of a run is to come
+pub from-start : (file : List ℕ) → thingsFrom file (Start 0) ≡ thingsOfRun file
+from-start file = refl
+
+-- ---- a poll of a run under way
+
+module _ (file : List ℕ) (n : ℕ) (run : Run) (tick : Tick) (memory out : List ℕ)
+    (good : settingsGood file ≡ true) (valid : runValid file n run ≡ true) where
+  abbrev Ordered : Position → Outcome → Type 0
+  Ordered position = InOrder file memory out (run .slot) (thingsFrom file position)
+
+  abbrev stops : List Thing
+  stops = writesOf (stopSteps file) ++ (theEnd ∷ [])
+
+  abbrev lines : List Thing
+  lines = stagesFrom (rowsIn file) (runFrames file) 1 4 ++ stops
+
+  module _ (moment : Passed) where
+    -- with no start write left the very first line goes out
+    start-hands : (k : ℕ) (steps : List Step) → fromWrite (drop k (startSteps file)) ≡ steps
+        → Ordered (Start k) (handStart file run tick moment memory out steps)
+    start-hands k [] found =
+        let panel = good-panel file good in
+        let frames : 0 < runFrames file = frames-some (panelOf file) panel in
+        let rows : 0 < rowsIn file = omega (arith, rows-some (panelOf file) panel) in
+        record {
+          thing = aLine 1 0 0;
+          first =
+              ap (λ (l : List Thing). l ++ lines) (writes-from (drop k (startSteps file)) ∙ ap writesOf found)
+              ∙ lines-begin (rowsIn file) (runFrames file) stops frames
+              ∙ line-first file 1 0 0 frames rows;
+          answers = refl;
+          puts = refl;
+        }
+    start-hands k (step ∷ rest) found =
+        let behind = rw (length-starts file good) at (behind-write (startSteps file) k step rest found) in
+        record {
+          thing = aWrite step;
+          first =
+              ap (λ (l : List Thing). l ++ lines)
+              (first-write (drop k (startSteps file)) step rest (all-from k (startSteps file) (all-starts file good)) found)
+              ∙ ap (λ (l : List Step). aWrite step ∷ (writesOf l ++ lines)) (sym behind);
+          answers = refl;
+          puts = refl;
+        }
+
+    -- with no stop write left the run is done
+    stop-hands : (k : ℕ) (steps : List Step) → fromWrite (drop k (stopSteps file)) ≡ steps
+        → Ordered (Stop k) (handStop file run tick moment memory out steps)
+    stop-hands k [] found =
+        record {
+          thing = theEnd;
+          first = ap (λ (l : List Thing). l ++ (theEnd ∷ [])) (writes-from (drop k (stopSteps file)) ∙ ap writesOf found);
+          answers = refl;
+          puts = refl;
+        }
+    stop-hands k (step ∷ rest) found =
+        let behind = rw (length-stops file good) at (behind-write (stopSteps file) k step rest found) in
+        record {
+          thing = aWrite step;
+          first =
+              ap (λ (l : List Thing). l ++ (theEnd ∷ []))
+              (first-write (drop k (stopSteps file)) step rest (all-from k (stopSteps file) (all-stops file good)) found)
+              ∙ ap (λ (l : List Step). aWrite step ∷ (writesOf l ++ (theEnd ∷ []))) (sym behind);
+          answers = refl;
+          puts = refl;
+        }
+
+    hands-first : (position : Position) → run .next ≡ position → Ordered position (handOut file run tick moment memory out position)
+    hands-first (Start k) at = start-hands k (fromWrite (drop k (startSteps file))) refl
+    hands-first (Line stage frame row) at =
+        let line = valid-line file n run valid stage frame row at in
+        record {
+          thing = aLine stage frame row;
+          first = line-first file stage frame row (line .frames) (line .rows);
+          answers = refl;
+          puts = refl;
+        }
+    hands-first (Stop k) at = stop-hands k (fromWrite (drop k (stopSteps file))) refl
+
+  pub in-order : InOrder file memory out (run .slot) (thingsFrom file (run .next)) (pollRun file run tick memory out)
+  in-order =
+      by-run file run tick memory out (Ordered (run .next))
+      (λ number. refl)
+      (λ moment ms. refl)
+      (λ moment. hands-first moment (run .next) refl)

@@ -1,0 +1,39 @@
+-- `abandon_number`, case by case.
+-- Assumes nothing.
+use mathlib.Core.Path.{sym, ap, _∙_}
+use mathlib.Core.Bool.{not}
+use denote.Ref.{now}
+use Rattle.lists.proofs.Rules.{here, past, none}
+use Rattle.board.specs.Facts.{stateOf, abandonOwn}
+use Rattle.board.proofs.Guard.{number-store, number-more, number-none}
+use borrow.Author.Needs.{needs}
+use Rattle.board.proofs.abandon_number.Statement.{statement}
+use Rattle.board.proofs.abandon_number.Tie as tie
+
+store-number-requires : tie.Need-store-number-requires
+store-number-requires c κs = search needs
+
+returns : tie.Need-returns
+returns c =
+    let a = c .before .before .before .args in
+    let s = stateOf (now (a .file)) (a .len) (a .slots) (a .phase) in
+    number-store s (a .memory-len) (abandonOwn s) (c .before .store-number .ensures) (c .if1 .taken)
+
+is-running-requires : tie.Need-is-running-requires
+is-running-requires c κs = search needs
+
+returns-2 : tie.Need-returns-2
+returns-2 c =
+    let a = c .before .before .before .before .before .args in
+    let s = stateOf (now (a .file)) (a .len) (a .slots) (a .phase) in
+    number-more s (a .memory-len) (abandonOwn s) (c .before .before .before .store-number .ensures) (c .before .before .if1 .left) (here (sym (ap not (c .before .is-running .ensures)) ∙ c .if2 .taken))
+
+returns-3 : tie.Need-returns-3
+returns-3 c =
+    let a = c .before .before .before .before .before .args in
+    let s = stateOf (now (a .file)) (a .len) (a .slots) (a .phase) in
+    number-none s (a .memory-len) (abandonOwn s) (c .before .before .before .store-number .ensures) (c .before .before .if1 .left) (past (sym (ap not (c .before .is-running .ensures)) ∙ c .if2 .left) none)
+
+pub abandon-number-spec : {M : Type 1} → statement M
+abandon-number-spec =
+    tie.close (tie.spec store-number-requires returns is-running-requires returns-2 returns-3)

@@ -1,0 +1,51 @@
+-- `open_number`: 2, then 1.
+-- Assumes nothing.
+use denote.Ref.{now}
+use Rattle.lists.proofs.Rules.{refused, passed}
+use Rattle.board.proofs.OpenReply.{open-2, open-low, open-high, open-room, open-0}
+use borrow.Author.Needs.{needs}
+use Rattle.board.proofs.open_number.Statement.{statement}
+use Rattle.board.proofs.open_number.Tie as tie
+
+laid-out-requires : tie.Need-laid-out-requires
+laid-out-requires c κs = search needs
+
+returns : tie.Need-returns
+returns c =
+    let a = c .before .before .before .before .args in
+    open-2 (now (a .file)) (a .n) (a .memory-len) (refused (c .before .before .laid-out .ensures .good) (c .if1 .taken))
+
+returns-2 : tie.Need-returns-2
+returns-2 c =
+    let a = c .before .before .before .before .before .args in
+    open-low (now (a .file)) (a .n) (a .memory-len) (passed (c .before .before .before .laid-out .ensures .good) (c .before .if1 .left)) (c .if2 .taken)
+
+returns-3 : tie.Need-returns-3
+returns-3 c =
+    let a = c .before .before .before .before .before .before .args in
+    open-high (now (a .file)) (a .n) (a .memory-len) (passed (c .before .before .before .before .laid-out .ensures .good) (c .before .before .if1 .left)) (c .before .if2 .left) (c .if3 .taken)
+
+store-bytes-requires : tie.Need-store-bytes-requires
+store-bytes-requires c κs = (passed (c .before .before .before .before .laid-out .ensures .good) (c .before .before .if1 .left), c .if3 .left)
+
+returns-4 : tie.Need-returns-4
+returns-4 c =
+    let a = c .before .before .before .before .before .before .before .before .args in
+    open-room (now (a .file)) (a .n) (a .memory-len) (passed (c .before .before .before .before .before .before .laid-out .ensures .good) (c .before .before .before .before .if1 .left)) (c .before .before .before .if2 .left) (c .before .before .if3 .left) (c .before .store-bytes .ensures) (c .if4 .taken)
+
+returns-5 : tie.Need-returns-5
+returns-5 c =
+    let a = c .before .before .before .before .before .before .before .before .args in
+    open-0 (now (a .file)) (a .n) (a .memory-len) (passed (c .before .before .before .before .before .before .laid-out .ensures .good) (c .before .before .before .before .if1 .left)) (c .before .before .before .if2 .left) (c .before .before .if3 .left) (c .before .store-bytes .ensures) (c .if4 .left)
+
+pub open-number-spec : {M : Type 1} → statement M
+open-number-spec =
+    tie.close
+    (tie.spec
+    laid-out-requires
+    returns
+    returns-2
+    returns-3
+    store-bytes-requires
+    returns-4
+    returns-5)

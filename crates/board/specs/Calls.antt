@@ -1,0 +1,151 @@
+-- Document 01, "Store and bitmaps", "The run and its time" and "Numbers given back": what each call does, on any input. A refusal is
+-- its number and the state as given; every lent byte stays.
+-- Assumes nothing.
+use Prim.Native.Nat.{ℕ}
+use mathlib.Core.Bool.{Bool, true, false, not, _&&_}
+use mathlib.Core.List.{List, [], _∷_, _++_}
+use lib.Dec.{eqb, leb, ltb}
+use lib.ListN.{length, replicate}
+use Rattle.lists.specs.Lists.{overlay}
+use Rattle.lists.specs.Rules.{Case, case, firstOf}
+use Rattle.panel.specs.Panels.{strideOf}
+use Rattle.settings.specs.Settings.{panelOf, settingsGood}
+use Rattle.picture.specs.Slots.{slotPicture, withPicture}
+use Rattle.picture.specs.Regions.{regionCases, withRegion}
+use Rattle.bitmap.specs.Header.{fileLength}
+use Rattle.bitmap.specs.Bitmap.{bitmapGood, readPicture, writtenFile}
+use Rattle.run.specs.Runs.{begun}
+use Rattle.run.specs.declared.Tick.{Tick}
+use Rattle.run.specs.declared.Run.{Run}
+use Rattle.poll.specs.HandOut.{Outcome, outcome, rowBytesIn, rowsIn}
+use Rattle.poll.specs.Poll.{pollRun}
+use Rattle.poll.specs.declared.Answer.{Answer}
+use Rattle.poll.specs.declared.Answer.the-variants as answer
+use Rattle.poll.specs.declared.Phase.{Phase}
+use Rattle.poll.specs.declared.Phase.the-variants.{Idle, Abandoned, Running}
+use Rattle.board.specs.State.{fileOf, withPhase, storeBytes, storeCases, emptyState, openedState}
+use Rattle.board.specs.declared.State.{State}
+use Rattle.board.specs.declared.Reply.{Reply}
+use Rattle.board.specs.declared.Polled.{Polled}
+
+abbrev pub reply : (number : ℕ) → State → Reply
+reply number state = record { number = number; state = state }
+
+-- a slot that takes uploads and starts: 1 to n
+abbrev pub takesPictures : (slots slot : ℕ) → Bool
+takesPictures slots slot = leb 1 slot && leb slot slots
+
+abbrev pub isRunning : Phase → Bool
+isRunning Idle = false
+isRunning Abandoned = false
+isRunning (Running run) = true
+
+abbrev pub isAbandoned : Phase → Bool
+isAbandoned Idle = false
+isAbandoned Abandoned = true
+isAbandoned (Running run) = false
+
+-- a slot is that of the run under way
+abbrev pub isRunsSlot : Phase → (slot : ℕ) → Bool
+isRunsSlot Idle slot = false
+isRunsSlot Abandoned slot = false
+isRunsSlot (Running run) slot = eqb (run .slot) slot
+
+-- the stride of a bitmap file's rows, for the panel of a settings file
+abbrev pub strideIn : (file : List ℕ) → ℕ
+strideIn file = strideOf (panelOf file)
+
+-- ---- opening: 2, 1; else all slots white
+
+unfoldable pub opening : (file : List ℕ) (n : ℕ) (memory : List ℕ) → Reply × List ℕ
+opening file n memory =
+    firstOf
+    (case (not (settingsGood file)) 2
+    ∷ case (not (leb 1 n && leb n 7 && eqb (length memory) (storeBytes file n))) 1
+    ∷ [])
+    (λ number. (reply number emptyState, memory))
+    (reply 0 (openedState file n), replicate (length memory) 0xFF)
+
+-- ---- uploads: 13, 1, 3, 7, then 5, 6, or 4
+
+abbrev pub uploadCases : (state : State) (memoryLength slot : ℕ) → List Case
+uploadCases state memoryLength slot =
+    storeCases state memoryLength
+    ++ (case (not (takesPictures (state .slots) slot)) 3 ∷ case (isRunsSlot (state .phase) slot) 7 ∷ [])
+
+unfoldable pub regionUpload : (state : State) (memory : List ℕ) (slot x y width height : ℕ) (payload : List ℕ) → Reply × List ℕ
+regionUpload state memory slot x y width height payload =
+    firstOf
+    (uploadCases state (length memory) slot
+    ++ regionCases (rowBytesIn (fileOf state)) (rowsIn (fileOf state)) x y width height payload)
+    (λ number. (reply number state, memory))
+    (reply 0 state, withRegion (rowBytesIn (fileOf state)) (rowsIn (fileOf state)) memory slot x y width height payload)
+
+unfoldable pub bitmapUpload : (state : State) (memory : List ℕ) (slot : ℕ) (file : List ℕ) → Reply × List ℕ
+bitmapUpload state memory slot file =
+    firstOf
+    (uploadCases state (length memory) slot
+    ++ (case (not (bitmapGood (rowBytesIn (fileOf state)) (rowsIn (fileOf state)) (strideIn (fileOf state)) file)) 4 ∷ []))
+    (λ number. (reply number state, memory)) (
+      reply 0 state,
+      withPicture (rowBytesIn (fileOf state)) (rowsIn (fileOf state)) memory slot
+          (readPicture (rowBytesIn (fileOf state)) (rowsIn (fileOf state)) (strideIn (fileOf state)) file),
+    )
+
+-- ---- start: 13, 1, 8, 12, 3
+
+unfoldable pub starting : (state : State) (memoryLength slot : ℕ) (tick : Tick) → Reply
+starting state memoryLength slot tick =
+    firstOf
+    (storeCases state memoryLength
+    ++ (case (isRunning (state .phase)) 8
+    ∷ case (isAbandoned (state .phase)) 12
+    ∷ case (not (takesPictures (state .slots) slot)) 3
+    ∷ []))
+    (λ number. reply number state)
+    (reply 0 (withPhase state (Running (begun slot tick))))
+
+-- ---- abandon: 13, 1, 9
+
+unfoldable pub abandoning : (state : State) (memoryLength : ℕ) → Reply
+abandoning state memoryLength =
+    firstOf (storeCases state memoryLength ++ (case (not (isRunning (state .phase))) 9 ∷ []))
+    (λ number. reply number state)
+    (reply 0 (withPhase state Abandoned))
+
+-- ---- poll: 13, 1, 9, then 11, 10 of the run
+
+-- the answer, the state, the memory and the output
+pub data Polling : Type 0 where
+  polling : (answer : Answer) (state : State) (memory out : List ℕ) → Polling
+
+abbrev pub inState : State → Outcome → Polling
+inState state (outcome answer phase memory out) = polling answer (withPhase state phase) memory out
+
+abbrev pub pollPhase : (state : State) (tick : Tick) (memory out : List ℕ) → Phase → Polling
+pollPhase state tick memory out Idle = polling (answer.Refused 9) state memory out
+pollPhase state tick memory out Abandoned = polling (answer.Refused 9) state memory out
+pollPhase state tick memory out (Running run) = inState state (pollRun (fileOf state) run tick memory out)
+
+unfoldable pub polled : (state : State) (tick : Tick) (memory out : List ℕ) → Polling
+polled state tick memory out =
+    firstOf (storeCases state (length memory))
+    (λ number. polling (answer.Refused number) state memory out)
+    (pollPhase state tick memory out (state .phase))
+
+-- ---- the writer: 13, 1, 3, 11
+
+unfoldable pub bitmapWrite : (state : State) (memory : List ℕ) (slot : ℕ) (out : List ℕ) → Reply × List ℕ
+bitmapWrite state memory slot out =
+    firstOf
+    (storeCases state (length memory)
+    ++ (case (ltb (state .slots) slot) 3
+    ∷ case (ltb (length out) (fileLength (rowsIn (fileOf state)) (strideIn (fileOf state)))) 11
+    ∷ []))
+    (λ number. (reply number state, out)) (
+      reply 0 state,
+      overlay
+          (writtenFile (rowBytesIn (fileOf state)) (rowsIn (fileOf state)) (strideIn (fileOf state))
+          (slotPicture (rowBytesIn (fileOf state)) (rowsIn (fileOf state)) memory slot))
+          out,
+    )

@@ -1,0 +1,130 @@
+-- Lists of calls on a store, and what is seen of them from outside.
+-- Assumes nothing.
+use Prim.Native.Nat.{ℕ}
+use mathlib.Core.Bool.{Bool, true, false, cond}
+use mathlib.Core.List.{List, [], _∷_}
+use lib.Dec.{eqb}
+use lib.ListN.{length}
+use Rattle.picture.specs.Slots.{slotPicture}
+use Rattle.run.specs.declared.Tick.{Tick}
+use Rattle.poll.specs.Answers.{answerNumber, putOut}
+use Rattle.poll.specs.declared.Answer.{Answer}
+use Rattle.poll.specs.declared.Answer.the-variants.{Refused, Write, Line, Wait, Done}
+use Rattle.board.specs.Calls.{regionUpload, bitmapUpload, starting, abandoning, Polling, polling, polled, bitmapWrite}
+use Rattle.board.specs.declared.State.{State}
+use Rattle.board.specs.declared.Reply.{Reply}
+
+-- a call on the store, with what it brings. Every public call but opening that takes the state has a place here
+pub data Call : Type 0 where
+  uploadRegion : (slot x y width height : ℕ) (payload : List ℕ) → Call
+  uploadBitmap : (slot : ℕ) (file : List ℕ) → Call
+  start : (slot : ℕ) (tick : Tick) → Call
+  poll : (tick : Tick) (out : List ℕ) → Call
+  abandon : Call
+  writeBitmap : (slot : ℕ) (out : List ℕ) → Call
+
+-- what a call gave back: a number, or what a poll answered
+pub data Given : Type 0 where
+  number : ℕ → Given
+  answered : Answer → Given
+
+-- a number 0 accepts the call
+abbrev pub isAccepted : Given → Bool
+isAccepted (number n) = eqb n 0
+isAccepted (answered answer) = eqb (answerNumber answer) 0
+
+abbrev pub isDoneAnswer : Answer → Bool
+isDoneAnswer (Refused n) = false
+isDoneAnswer (Write length) = false
+isDoneAnswer (Line length) = false
+isDoneAnswer (Wait ms) = false
+isDoneAnswer Done = true
+
+abbrev pub isDone : Given → Bool
+isDone (number n) = false
+isDone (answered answer) = isDoneAnswer answer
+
+-- what is seen of a call: the call, the picture memory that it was lent, what it gave back, and the bytes that a poll put out
+pub data Event : Type 0 where
+  event : (call : Call) (memory : List ℕ) (given : Given) (put : List ℕ) → Event
+
+-- a call's event, and the state and the memory that it left
+pub record Called : Type 0 where
+  pub seen : Event
+  pub state : State
+  pub memory : List ℕ
+
+abbrev pub ofReply : (call : Call) (before : List ℕ) → Reply → (after : List ℕ) → Called
+ofReply call before r after =
+    record { seen = event call before (number (r .number)) []; state = r .state; memory = after }
+
+abbrev pub ofPoll : (call : Call) (before : List ℕ) → Polling → Called
+ofPoll call before (polling answer state memory out) =
+    record { seen = event call before (answered answer) (putOut answer out); state = state; memory = memory }
+
+-- one call on a state and a memory, by the definition that its contract cites
+abbrev pub callOn : (state : State) (memory : List ℕ) → Call → Called
+callOn state memory (uploadRegion slot x y width height payload) =
+    ofReply (uploadRegion slot x y width height payload) memory
+    (regionUpload state memory slot x y width height payload .0)
+    (regionUpload state memory slot x y width height payload .1)
+callOn state memory (uploadBitmap slot file) =
+    ofReply (uploadBitmap slot file) memory (bitmapUpload state memory slot file .0) (bitmapUpload state memory slot file .1)
+callOn state memory (start slot tick) = ofReply (start slot tick) memory (starting state (length memory) slot tick) memory
+callOn state memory (poll tick out) = ofPoll (poll tick out) memory (polled state tick memory out)
+callOn state memory abandon = ofReply abandon memory (abandoning state (length memory)) memory
+callOn state memory (writeBitmap slot out) = ofReply (writeBitmap slot out) memory (bitmapWrite state memory slot out .0) memory
+
+-- a list of calls, each given the state and the memory that the one before it left: what is seen of them, and the memory at the end
+abbrev pub eventsOf : (state : State) (memory : List ℕ) → List Call → List Event
+eventsOf state memory [] = []
+eventsOf state memory (call ∷ calls) =
+    callOn state memory call .seen ∷ eventsOf (callOn state memory call .state) (callOn state memory call .memory) calls
+
+abbrev pub memoryAfter : (state : State) (memory : List ℕ) → List Call → List ℕ
+memoryAfter state memory [] = memory
+memoryAfter state memory (call ∷ calls) = memoryAfter (callOn state memory call .state) (callOn state memory call .memory) calls
+
+-- ---- read from the events alone
+
+-- the bytes that polls put out, in order
+abbrev pub putBy : Event → List ℕ
+putBy (event call memory given put) = put
+
+abbrev pub handedOut : List Event → List (List ℕ)
+handedOut [] = []
+handedOut (e ∷ es) = putBy e ∷ handedOut es
+
+-- whether a run is under way, and on which slot, or abandoned, or neither
+pub data Standing : Type 0 where
+  atRest : Standing
+  underWay : (slot : ℕ) → Standing
+  abandoned : Standing
+
+-- the standing, and the shown picture
+pub record Seen : Type 0 where
+  pub standing : Standing
+  pub shown : List ℕ
+
+-- a run is under way from an accepted start to the poll that answers done or to an accepted abandon; after that abandon it is
+-- abandoned. At done the shown picture becomes what the run's slot held
+abbrev pub afterDone : (b h : ℕ) (memory : List ℕ) → Seen → Standing → Seen
+afterDone b h memory seen atRest = seen
+afterDone b h memory seen (underWay slot) = record { standing = atRest; shown = slotPicture b h memory slot }
+afterDone b h memory seen abandoned = seen
+
+abbrev pub afterCall : (b h : ℕ) (memory : List ℕ) → Seen → Call → Given → Seen
+afterCall b h memory seen (uploadRegion slot x y width height payload) given = seen
+afterCall b h memory seen (uploadBitmap slot file) given = seen
+afterCall b h memory seen (start slot tick) given =
+    cond (isAccepted given) (record { standing = underWay slot; shown = seen .shown }) seen
+afterCall b h memory seen (poll tick out) given = cond (isDone given) (afterDone b h memory seen (seen .standing)) seen
+afterCall b h memory seen abandon given = cond (isAccepted given) (record { standing = abandoned; shown = seen .shown }) seen
+afterCall b h memory seen (writeBitmap slot out) given = seen
+
+abbrev pub afterEvent : (b h : ℕ) → Seen → Event → Seen
+afterEvent b h seen (event call memory given put) = afterCall b h memory seen call given
+
+abbrev pub seenAfter : (b h : ℕ) → Seen → List Event → Seen
+seenAfter b h seen [] = seen
+seenAfter b h seen (e ∷ es) = seenAfter b h (afterEvent b h seen e) es

@@ -1,0 +1,51 @@
+-- Laws of what is put at the front of the output: the bytes of a step.
+-- Assumes nothing.
+use mathlib.Core.Path.{_≡_, refl, sym, ap, _∙_}
+use mathlib.Core.List.{List, []}
+use Prim.Native.Nat.{ℕ, _+_, _≤_}
+use native.Mathlib.Omega.{arith}
+use lib.ListN.{length, take, drop, length-drop}
+use lib.Seq.{drop-drop}
+use Rattle.lists.specs.Lists.{overlay}
+use Rattle.panel.specs.Registers.{dataLength}
+use Rattle.wire.specs.Registers.{registerWrite}
+use Rattle.settings.specs.Settings.{Step, write, wait, malformed, stepOf, sizeOf}
+use Rattle.settings.specs.Facts.{kindOf}
+use Rattle.settings.specs.declared.Kind.the-variants.{Write, Wait, Malformed}
+use Rattle.settings.proofs.Steps.{step-write, size-fits}
+use Rattle.poll.specs.HandOut.{stepBytes}
+use Rattle.poll.specs.Facts.{Sent}
+
+pub sent-as : {bytes same : List ℕ} (out : List ℕ) {n : ℕ} {o : List ℕ} → bytes ≡ same → Sent bytes out n o → Sent same out n o
+sent-as out e sent =
+    record { many = sent .many ∙ ap length e; whole = sent .whole ∙ ap (λ (l : List ℕ). overlay l out) e }
+
+-- nothing goes out for a wait, nor where there is no step
+pub sent-none : (step : Step) (out : List ℕ) → stepBytes step ≡ [] → Sent (stepBytes step) out 0 out
+sent-none step out e = sent-as out (sym e) (record { many = refl; whole = refl })
+
+pub wait-bytes : (step : Step) (ms : ℕ) → kindOf step ≡ Wait ms → stepBytes step ≡ []
+wait-bytes (write r d) ms e = absurd (let z : _≡_ {A = ℕ} 0 1 = cc in omega arith)
+wait-bytes (wait n) ms e = refl
+wait-bytes malformed ms e = refl
+
+pub malformed-bytes : (step : Step) → kindOf step ≡ Malformed → stepBytes step ≡ []
+malformed-bytes (write r d) e = absurd (let z : _≡_ {A = ℕ} 0 1 = cc in omega arith)
+malformed-bytes (wait n) e = refl
+malformed-bytes malformed e = refl
+
+-- a write whose data stand from index `at` + 2 of a file on lies in the file, and its bytes hold them
+module _ (panel : ℕ) (file : List ℕ) (at register : ℕ) (e : kindOf (stepOf panel (drop at file)) ≡ Write register) where
+  pub write-fits : at ≤ length file → at + 2 + dataLength register ≤ length file
+  write-fits h =
+      let fits : sizeOf (write register (take (dataLength register) (drop 2 (drop at file)))) ≤ length (drop at file) =
+      rw (step-write panel register (drop at file) e) at (size-fits panel (drop at file)) in
+      omega (arith, fits, length-drop at file)
+
+  pub write-sent : (n : ℕ) → n ≡ dataLength register → {out : List ℕ} {r : ℕ} {o : List ℕ}
+      → (r ≡ 3 + length (take n (drop (at + 2) file))) × (o ≡ overlay (registerWrite register (take n (drop (at + 2) file))) out)
+      → Sent (stepBytes (stepOf panel (drop at file))) out r o
+  write-sent n d {out} put =
+      let same : registerWrite register (take n (drop (at + 2) file)) ≡ stepBytes (stepOf panel (drop at file)) =
+      rw (step-write panel register (drop at file) e, d, drop-drop 2 at file) in
+      sent-as out same (record { many = omega (arith, put .0); whole = put .1 })

@@ -1,0 +1,36 @@
+-- What the functions below a poll may assume, and what they tell.
+-- Assumes nothing.
+use Prim.Native.Nat.{ℕ, _+_, _*_, _≤_, _<_}
+use mathlib.Core.Path.{_≡_}
+use mathlib.Core.Bool.{true}
+use mathlib.Core.List.{List}
+use lib.ListN.{length}
+use Rattle.lists.specs.Lists.{overlay}
+use Rattle.settings.specs.Settings.{settingsGood}
+use Rattle.run.specs.Due.{runFrames}
+use Rattle.run.specs.declared.Run.{Run}
+use Rattle.poll.specs.HandOut.{rowBytesIn, rowsIn}
+
+-- bytes were put at the front of an output, which then is `after`; `count` is how many
+pub record Sent (bytes out : List ℕ) (count : ℕ) (after : List ℕ) : Type 0 where
+  pub many : count ≡ length bytes
+  pub whole : after ≡ overlay bytes out
+
+-- a slot lies in the memory
+pub record SlotIn (file : List ℕ) (slot : ℕ) (memory : List ℕ) : Type 0 where
+  pub high : slot ≤ 7
+  pub inside : slot * (rowsIn file * rowBytesIn file) + rowsIn file * rowBytesIn file ≤ length memory
+
+-- a row of a frame of a stage, on the panel of an accepted file
+pub record LineIn (file : List ℕ) (stage frame row : ℕ) : Type 0 where
+  pub good : settingsGood file ≡ true
+  pub low : 1 ≤ stage
+  pub high : stage ≤ 4
+  pub frames : frame < runFrames file
+  pub rows : row < rowsIn file
+
+-- slot 0 and the run's slot lie in the memory, and differ
+pub record Room (file : List ℕ) (run : Run) (memory : List ℕ) : Type 0 where
+  pub low : 1 ≤ run .slot
+  pub high : run .slot ≤ 7
+  pub inside : run .slot * (rowsIn file * rowBytesIn file) + rowsIn file * rowBytesIn file ≤ length memory
