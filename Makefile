@@ -19,7 +19,7 @@ test: tests
 # What the tests run: the static library and the programs. Only proved crates are built.
 build:
 	rt staticlib clock_api
-	rt check settings_list bitmap_normal
+	rt check settings_list bitmap_normal replay
 
 tests: build
 	@mkdir -p $(OUT)
@@ -33,6 +33,10 @@ tests: build
 	python3 tests/listing/compare.py target/bin/settings_list
 	@echo "== bitmaps made by other tools, and damaged ones"
 	python3 tests/bitmaps/compare.py target/bin/bitmap_normal
+	@echo "== every public call on the store has a place in demand 3"
+	python3 tests/chain/calls.py
+	@echo "== whole runs through replay, with the sums read from the bytes handed out"
+	python3 tests/runs/sums.py target/bin/replay
 
 bench: build
 	sh bench/line.sh

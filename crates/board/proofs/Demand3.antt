@@ -119,7 +119,7 @@ from-opened file n l good exact calls =
     record {
       within = λ x y fx fy. moves-within b h N x y some fx fy (r .moved) (white x y fx fy);
       resting = sum-at-rest b h N some white r;
-      shown = r .agree .shows
+      shown = r .agree .shows;
     }
   where
     first-fits : (k p : ℕ) → p ≤ (k + 1) * p

@@ -41,7 +41,7 @@ opened file n lent =
         record {
           good = not-false _ good;
           exact = eqb-true _ _ (and-right (leb 1 n && leb n 7) (eqb (length lent) (storeBytes file n)) (not-false _ sized));
-          leaves = refl
+          leaves = refl;
         }
 
 pub opened-file : (file : List ℕ) (n : ℕ) → fileOf (openedState file n) ≡ file

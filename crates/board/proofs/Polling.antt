@@ -16,10 +16,11 @@ use Rattle.run.specs.declared.Run.{Run}
 use Rattle.run.proofs.Valid.{Valid, valid}
 use Rattle.poll.specs.HandOut.{Outcome, outcome, rowBytesIn, rowsIn}
 use Rattle.poll.specs.Facts.{Room}
+use Rattle.poll.specs.declared.Answer.{Answer}
 use Rattle.poll.specs.declared.Answer.the-variants.{Refused}
 use Rattle.poll.specs.declared.Phase.{Phase}
 use Rattle.poll.specs.declared.Phase.the-variants.{Running}
-use Rattle.board.specs.State.{fileOf, phaseValid, stateRules, stateValid, storeBytes, storeCases}
+use Rattle.board.specs.State.{fileOf, withPhase, phaseValid, stateRules, stateValid, storeBytes, storeCases}
 use Rattle.board.specs.Calls.{Polling, polling, inState, pollPhase, polled}
 use Rattle.board.specs.declared.State.{State}
 use Rattle.board.proofs.Guard.{some-number, none-of, store-valid}
@@ -59,5 +60,11 @@ room file slots run memory v few e =
     record {
       low = facts .low;
       high = omega (arith, facts .high);
-      inside = rw (e, add-one) (more-rows (run .slot) (suc slots) size (omega (arith, facts .high)))
+      inside = rw (e, add-one) (more-rows (run .slot) (suc slots) size (omega (arith, facts .high)));
     }
+
+-- the whole poll, from that on the state's parts
+pub poll-whole : (state : State) (tick : Tick) (memory out : List ℕ) {given : Answer} {after : Phase} {next : State} {m o : List ℕ}
+    → next ≡ withPhase state after → inState state (outcome given after m o) ≡ polled state tick memory out
+    → polling given next m o ≡ polled state tick memory out
+poll-whole state tick memory out {given} {after} {next} {m} {o} e f = rw e f

@@ -86,9 +86,9 @@ module _ (file : List ℕ) (n : ℕ) (run : Run) (tick : Tick) (memory out : Lis
         record {
           next = moves.updating shown new (nextPlace h N stage frame row);
           move = moves.draw
-          (drives-out b h (lineBytes file memory (run .slot) stage row) out stage row (pictureOfStage stage shown new)
-          (line-drives b h memory (run .slot) stage row (size-in file good .fours)));
-          agree = rw (← place-next h N stage frame row) (agree-moved first _)
+              (drives-out b h (lineBytes file memory (run .slot) stage row) out stage row (pictureOfStage stage shown new)
+              (line-drives b h memory (run .slot) stage row (size-in file good .fours)));
+          agree = rw (← place-next h N stage frame row) (agree-moved first _);
         }
 
     finishes : Onward allOut (handStop file run tick moment memory out [])
@@ -98,7 +98,7 @@ module _ (file : List ℕ) (n : ℕ) (run : Run) (tick : Tick) (memory out : Lis
         (record {
           next = moves.resting new;
           move = moves.done (silent-none b h);
-          agree = record { sees = rw (← now) rests; stands = refl; shows = now }
+          agree = record { sees = rw (← now) rests; stands = refl; shows = now };
         })
 
     start-steps : (steps : List Step) → writesTo 0x0A steps ≡ false

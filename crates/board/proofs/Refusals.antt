@@ -62,8 +62,10 @@ refused-poll state tick memory out =
   where
     Same : Polling → Type 0
     Same p = eqb (answerNumber (answerOf p)) 0 ≡ false → p ≡ polling (answerOf p) state memory out
+
     in-state : (o : Outcome) → outcomeNumber o ≡ 0 → Same (inState state o)
     in-state (outcome answer phase memory′ out′) e f = absurd (false≢true (sym f ∙ ap (λ (n : ℕ). eqb n 0) e))
+
     of-run : (run : Run) → state .phase ≡ Running run → Same (inState state (pollRun (fileOf state) run tick memory out))
     of-run run e =
         by-run (fileOf state) run tick memory out (λ o. Same (inState state o))
@@ -72,6 +74,7 @@ refused-poll state tick memory out =
         (λ moment.
         in-state (handOut (fileOf state) run tick moment memory out (run .next))
         (handed-number (fileOf state) run tick moment memory out (run .next)))
+
     of-phase : (phase : Phase) → state .phase ≡ phase → Same (pollPhase state tick memory out phase)
     of-phase Idle e = λ f. refl
     of-phase Abandoned e = λ f. refl

@@ -45,7 +45,7 @@ module _ (b h N : ℕ) (memory : List ℕ) where
           record {
             next = moves.abandoned _ _ _;
             move = moves.abandon (silent-none b h);
-            agree = record { sees = stopped; stands = refl; shows = agree .shows }
+            agree = record { sees = stopped; stands = refl; shows = agree .shows };
           }
       by-view f stopped = absurd (false≢true (sym f))
 
@@ -77,8 +77,8 @@ module _ (state : State) (memory : List ℕ) (seen : Seen) (view : View)
             leads = record {
               next = _;
               move = starts b h N memory (dot b (slotPicture b h memory slot)) idle whole (agree .sees);
-              agree = record { sees = runs; stands = refl; shows = agree .shows }
-            }
+              agree = record { sees = runs; stands = refl; shows = agree .shows };
+            };
           }
 
   pub abandon-move : OneMove (fileOf state) view seen (callOn state memory abandon)

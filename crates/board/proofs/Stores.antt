@@ -37,7 +37,7 @@ passed state memory valid length-good =
     record {
       good = holds 1 (stateRules state) all;
       phase-good = holds 4 (stateRules state) all;
-      exact = eqb-true _ _ (not-false _ length-good)
+      exact = eqb-true _ _ (not-false _ length-good);
     }
 
 -- the sizes of an accepted file's panel

@@ -152,7 +152,7 @@ next : (s : State) (m : List ℕ) (call : Call) {c : Called} {calls : List Call}
 next s m call {c} {calls} {events} {u} e l =
     record {
       seen = rw (← e) (ap (λ (es : List Event). c .seen ∷ es) (l .seen));
-      left = rw (← e) (l .left)
+      left = rw (← e) (l .left);
     }
 
 listed : {s : State} {m : List ℕ} {events : List Event} {u : List ℕ} (chain : Chain s m events u) → Listed s m (callsOf chain) events u

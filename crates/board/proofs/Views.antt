@@ -40,8 +40,10 @@ pub place-next : (h N stage frame row : ℕ) → placeOf (nextPosition h N stage
 unfolding nextPosition nextPlace
 place-next h N stage frame row =
     place-cond (ltb (row + 1) h) _ _
-    ∙ rw (place-cond (ltb (frame + 1) N) (Line stage (frame + 1) 0) (cond (ltb stage 4) (Line (stage + 1) 0 0) (Stop 0)),
-    place-cond (ltb stage 4) (Line (stage + 1) 0 0) (Stop 0))
+    ∙ rw (
+      place-cond (ltb (frame + 1) N) (Line stage (frame + 1) 0) (cond (ltb stage 4) (Line (stage + 1) 0 0) (Stop 0)),
+      place-cond (ltb stage 4) (Line (stage + 1) 0 0) (Stop 0),
+    )
 
 -- ---- the view of a store
 
@@ -104,6 +106,7 @@ module _ (b h : ℕ) where
     where
       shown : slotPicture b h memory′ 0 ≡ slotPicture b h memory 0
       shown = same 0 (λ e. omega arith)
+
       by-phase : (p : Phase) → isRunsSlot p slot ≡ false → (v : View) → Sees b h memory p v → Sees b h memory′ p v
       by-phase Idle f v rests = rw (← shown) rests
       by-phase (Running run) f v runs = rw (← shown, ← same (run .slot) (eqb-false (run .slot) slot f)) runs

@@ -111,5 +111,5 @@ worked-by-hand =
       past-edge = refl;
       step-30 = refl;
       step-taken = refl;
-      step-back = refl
+      step-back = refl;
     }

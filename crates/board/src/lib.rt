@@ -550,8 +550,8 @@ impl State {
         height: u32,
         payload: &[u8],
     ) -> Reply
-        ensures { λ r. ⌜ (r, now (memory .exit))
-            ≡ regionUpload self (now (memory .entry)) slot x y width height (now (payload .entry)) ⌝ }
+        ensures { λ r. ⌜
+            (r, now (memory .exit)) ≡ regionUpload self (now (memory .entry)) slot x y width height (now (payload .entry)) ⌝ }
     {
         let file = self.file;
         let phase = self.phase;

@@ -130,7 +130,7 @@ module _ (file : List ℕ) (n : ℕ) (run : Run) (e : runValid file n run ≡ tr
       elim (ℕ-discrete row 0) [
         | yes z ↦ omega (arith, due-here file run at, due-frame file run stage frame row z)
         | no d ↦
-          let here : frameDue (run .first .0) (i - 0) ≤ run .handed .0 = rw (ne-eqb row 0 d) at (line .due) in
-          omega (arith, due-here file run at, due-later file run stage frame row d)
+            let here : frameDue (run .first .0) (i - 0) ≤ run .handed .0 = rw (ne-eqb row 0 d) at (line .due) in
+            omega (arith, due-here file run at, due-later file run stage frame row d)
       ] in
       line-moved (run .first) stage frame row (line .low) (line .high) (line .frames) (line .rows) by

@@ -16,7 +16,7 @@ begun slot tick =
       passed = record { 0 = 0 };
       handed = record { 0 = 0 };
       first = record { 0 = 0 };
-      next = Start 0
+      next = Start 0;
     }
 
 -- after a wait answer: the reading is an accepted one, and no wait begins anew
@@ -28,7 +28,7 @@ waited run tick moment =
       passed = moment;
       handed = run .handed;
       first = run .first;
-      next = run .next
+      next = run .next;
     }
 
 -- after a write or a line was handed out at a moment

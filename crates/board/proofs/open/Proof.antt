@@ -15,7 +15,8 @@ empty-state-requires c κs = search needs
 returns : tie.Need-returns
 returns c =
     let a = c .before .before .before .before .before .args in
-    open-refused (now (a .file)) (a .n) (now (a .memory)) (c .before .before .open-number .ensures) (c .empty-state .ensures) (c .before .if1 .taken)
+    search
+    (needs, open-refused (now (a .file)) (a .n) (now (a .memory)) (c .before .before .open-number .ensures) (c .empty-state .ensures) (c .before .if1 .taken))
 
 fill-at-requires : tie.Need-fill-at-requires
 fill-at-requires c κs = search needs
@@ -31,7 +32,8 @@ same-length c = search needs
 returns-2 : tie.Need-returns-2
 returns-2 c =
     let a = c .before .before .before .before .before .before .before .before .before .args in
-    open-accepted (now (a .file)) (a .n) (now (a .memory)) (c .before .before .before .before .before .before .open-number .ensures) (c .before .before .before .before .before .if1 .left) (c .opened-state .ensures) (c .before .before .before .fill-at .ensures)
+    search
+    (needs, open-accepted (now (a .file)) (a .n) (now (a .memory)) (c .before .before .before .before .before .before .open-number .ensures) (c .before .before .before .before .before .if1 .left) (c .opened-state .ensures) (c .before .before .before .fill-at .ensures))
 
 pub open-spec : {M : Type 1} → statement M
 open-spec =

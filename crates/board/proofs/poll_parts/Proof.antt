@@ -19,7 +19,7 @@ store-number-requires : tie.Need-store-number-requires
 store-number-requires c κs = search needs
 
 returns : tie.Need-returns
-returns c = 
+returns c =
     let a = c .before .before .before .before .before .args in
     poll-refused (stateOf (a .file .now) (a .len) (a .slots) (a .phase)) (a .tick) (a .memory .now) (a .out .now) (c .before .store-number .ensures) (c .if1 .taken)
 
@@ -33,13 +33,13 @@ enum-known-phase : tie.Need-enum-known-phase
 enum-known-phase c = search needs
 
 slice-aggregate-poll-store : tie.Need-slice-aggregate-poll-store
-slice-aggregate-poll-store c = 
+slice-aggregate-poll-store c =
     let a = c .before .before .before .before .before .before .before .before .before .args in
     let s = stateOf (a .file .now) (a .len) (a .slots) (a .phase) in
     valid-length s (store-valid s _ (poll-free s (a .tick) (a .memory .now) (a .out .now) (c .before .before .before .before .before .store-number .ensures) (c .before .before .before .before .if1 .left)))
 
 poll-store-requires : tie.Need-poll-store-requires
-poll-store-requires c κs = 
+poll-store-requires c κs =
     let a = c .before .before .before .before .before .before .before .before .before .before .before .args in
     let s = stateOf (a .file .now) (a .len) (a .slots) (a .phase) in
     let free = poll-free s (a .tick) (a .memory .now) (a .out .now) (c .before .before .before .before .before .before .before .store-number .ensures) (c .before .before .before .before .before .before .if1 .left) in
@@ -67,7 +67,7 @@ same-length-2 : tie.Need-same-length-2
 same-length-2 c = search needs
 
 returns-4 : tie.Need-returns-4
-returns-4 c = 
+returns-4 c =
     let a = c .before .before .before .before .before .before .before .before .before .before .before .before .before .before .before .before .args in
     let s = stateOf (a .file .now) (a .len) (a .slots) (a .phase) in
     ap (inState s) (c .before .before .before .before .poll-store .ensures)

@@ -12,7 +12,7 @@ laid-out-requires : tie.Need-laid-out-requires
 laid-out-requires c κs = search needs
 
 poll-run-requires : tie.Need-poll-run-requires
-poll-run-requires c κs = 
+poll-run-requires c κs =
     let a = c .before .before .before .before .before .before .args in
     let p = c .before .before .before .before .before .before .pre in
     let accepted = c .before .before .laid-out .ensures .stop (c .before .before .laid-out .ensures .good ∙ p .0) in (

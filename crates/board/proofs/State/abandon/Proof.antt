@@ -16,7 +16,7 @@ abandon-number-requires c κs = search needs
 returns : tie.Need-returns
 returns c =
     let a = c .before .before .before .before .before .args in
-    abandon-refused (a .self) (length (now (a .memory))) (c .before .abandon-number .ensures) (c .if1 .taken)
+    search (needs, abandon-refused (a .self) (length (now (a .memory))) (c .before .abandon-number .ensures) (c .if1 .taken))
 
 with-phase-requires : tie.Need-with-phase-requires
 with-phase-requires c κs = search needs
@@ -24,7 +24,8 @@ with-phase-requires c κs = search needs
 returns-2 : tie.Need-returns-2
 returns-2 c =
     let a = c .before .before .before .before .before .before .args in
-    abandon-accepted (a .self) (length (now (a .memory))) (c .before .before .abandon-number .ensures) (c .with-phase .ensures) (c .before .if1 .left)
+    search
+    (needs, abandon-accepted (a .self) (length (now (a .memory))) (c .before .before .abandon-number .ensures) (c .with-phase .ensures) (c .before .if1 .left))
 
 pub abandon-spec : {M : Type 1} → statement M
 abandon-spec =

@@ -1,6 +1,6 @@
 -- The state is taken apart and made anew.
 -- Assumes nothing.
-use mathlib.Core.Path.{_≡_, sym, ap, _∙_}
+use Rattle.board.proofs.Polling.{poll-whole}
 use borrow.Author.Needs.{needs}
 use Rattle.board.proofs.State.poll.Statement.{statement}
 use Rattle.board.proofs.State.poll.Tie as tie
@@ -21,7 +21,8 @@ same-length-2 : tie.Need-same-length-2
 same-length-2 c = search needs
 
 returns : tie.Need-returns
-returns c = rw (c .with-phase .ensures) (c .before .before .before .before .before .poll-parts .ensures)
+returns c =
+    search (needs, poll-whole (c .before .before .before .before .before .before .before .before .before .before .before .before .args .self) (c .before .before .before .before .before .before .before .before .before .before .before .before .args .tick) (c .before .before .before .before .before .before .before .before .before .before .before .before .args .memory .now) (c .before .before .before .before .before .before .before .before .before .before .before .before .args .out .now) (c .with-phase .ensures) (c .before .before .before .before .before .poll-parts .ensures))
 
 pub poll-spec : {M : Type 1} → statement M
 poll-spec =

@@ -16,7 +16,8 @@ start-number-requires c κs = search needs
 returns : tie.Need-returns
 returns c =
     let a = c .before .before .before .before .before .args in
-    start-refused (a .self) (length (now (a .memory))) (a .slot) (a .tick) (c .before .start-number .ensures) (c .if1 .taken)
+    search
+    (needs, start-refused (a .self) (length (now (a .memory))) (a .slot) (a .tick) (c .before .start-number .ensures) (c .if1 .taken))
 
 begin-requires : tie.Need-begin-requires
 begin-requires c κs = search needs
@@ -27,7 +28,8 @@ with-phase-requires c κs = search needs
 returns-2 : tie.Need-returns-2
 returns-2 c =
     let a = c .before .before .before .before .before .before .before .args in
-    start-accepted (a .self) (length (now (a .memory))) (a .slot) (a .tick) (c .before .before .before .start-number .ensures) (c .before .begin .ensures) (c .with-phase .ensures) (c .before .before .if1 .left)
+    search
+    (needs, start-accepted (a .self) (length (now (a .memory))) (a .slot) (a .tick) (c .before .before .before .start-number .ensures) (c .before .begin .ensures) (c .with-phase .ensures) (c .before .before .if1 .left))
 
 pub start-spec : {M : Type 1} → statement M
 start-spec =

@@ -18,7 +18,8 @@ upload-number-requires c κs = search needs
 returns : tie.Need-returns
 returns c =
     let a = c .before .before .before .before .before .before .args in
-    bitmap-refused (a .self) (now (a .memory)) (a .slot) (c .before .upload-number .ensures) (now (a .bitmap)) (c .if1 .taken)
+    search
+    (needs, bitmap-refused (a .self) (now (a .memory)) (a .slot) (c .before .upload-number .ensures) (now (a .bitmap)) (c .if1 .taken))
 
 array-share-prefix-file : tie.Need-array-share-prefix-file
 array-share-prefix-file c =
@@ -45,7 +46,8 @@ same-length c = search needs
 returns-2 : tie.Need-returns-2
 returns-2 c =
     let a = c .before .before .before .before .before .before .before .before .before .before .before .args in
-    bitmap-uploaded (a .self) (now (a .memory)) (a .slot) (c .before .before .before .before .before .before .upload-number .ensures) (now (a .bitmap)) (c .before .before .before .before .before .if1 .left) (c .before .before .place-bitmap .ensures)
+    search
+    (needs, bitmap-uploaded (a .self) (now (a .memory)) (a .slot) (c .before .before .before .before .before .before .upload-number .ensures) (now (a .bitmap)) (c .before .before .before .before .before .if1 .left) (c .before .before .place-bitmap .ensures))
 
 pub upload-bitmap-spec : {M : Type 1} → statement M
 upload-bitmap-spec =

@@ -18,7 +18,8 @@ upload-number-requires c κs = search needs
 returns : tie.Need-returns
 returns c =
     let a = c .before .before .before .before .before .before .args in
-    region-upload-refused (a .self) (now (a .memory)) (a .slot) (c .before .upload-number .ensures) (a .x) (a .y) (a .width) (a .height) (now (a .payload)) (c .if1 .taken)
+    search
+    (needs, region-upload-refused (a .self) (now (a .memory)) (a .slot) (c .before .upload-number .ensures) (a .x) (a .y) (a .width) (a .height) (now (a .payload)) (c .if1 .taken))
 
 array-share-prefix-file : tie.Need-array-share-prefix-file
 array-share-prefix-file c =
@@ -45,8 +46,11 @@ same-length c = search needs
 returns-2 : tie.Need-returns-2
 returns-2 c =
     let a = c .before .before .before .before .before .before .before .before .before .before .before .args in
-    region-uploaded (a .self) (now (a .memory)) (a .slot) (c .before .before .before .before .before .before .upload-number .ensures) (a .x) (a .y) (a .width) (a .height) (now (a .payload)) (c .before .before .before .before .before .if1 .left)
-    (c .before .before .place-region .ensures)
+    search (
+      needs,
+      region-uploaded (a .self) (now (a .memory)) (a .slot) (c .before .before .before .before .before .before .upload-number .ensures) (a .x) (a .y) (a .width) (a .height) (now (a .payload)) (c .before .before .before .before .before .if1 .left)
+          (c .before .before .place-region .ensures),
+    )
 
 pub upload-region-spec : {M : Type 1} → statement M
 upload-region-spec =

@@ -18,7 +18,8 @@ write-number-requires c κs = search needs
 returns : tie.Need-returns
 returns c =
     let a = c .before .before .before .before .before .before .args in
-    write-refused (a .self) (now (a .memory)) (a .slot) (now (a .out)) (c .before .write-number .ensures) (c .if1 .taken)
+    search
+    (needs, write-refused (a .self) (now (a .memory)) (a .slot) (now (a .out)) (c .before .write-number .ensures) (c .if1 .taken))
 
 array-share-prefix-file : tie.Need-array-share-prefix-file
 array-share-prefix-file c =
@@ -49,7 +50,8 @@ same-length c = search needs
 returns-2 : tie.Need-returns-2
 returns-2 c =
     let a = c .before .before .before .before .before .before .before .before .before .before .before .args in
-    write-accepted (a .self) (now (a .memory)) (a .slot) (now (a .out)) (c .before .before .before .before .before .before .write-number .ensures) (c .before .before .before .before .before .if1 .left) (c .before .before .write-slot .ensures)
+    search
+    (needs, write-accepted (a .self) (now (a .memory)) (a .slot) (now (a .out)) (c .before .before .before .before .before .before .write-number .ensures) (c .before .before .before .before .before .if1 .left) (c .before .before .write-slot .ensures))
 
 pub write-bitmap-spec : {M : Type 1} → statement M
 write-bitmap-spec =
