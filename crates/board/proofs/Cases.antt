@@ -1,21 +1,16 @@
 -- Calls by cases: what holds of every refusal, and of what is accepted where no case applies, holds of the call.
 -- Assumes nothing.
 use mathlib.Core.Path.{_≡_, refl}
-use mathlib.Core.Bool.{Bool, true, false, cond, not, _&&_}
-use mathlib.Core.List.{List, [], _∷_, _++_}
+use mathlib.Core.Bool.{Bool, true, false, cond}
+use mathlib.Core.List.{List, _++_}
 use Prim.Native.Nat.{ℕ, _-_}
-use borrow.Author.Tests.{not-true}
-use lib.Dec.{eqb, leb, ltb}
+use lib.Dec.{eqb, ltb}
 use lib.ListN.{length, replicate}
 use Rattle.lists.specs.Lists.{overlay}
-use Rattle.lists.specs.Rules.{Case, case, firstOf}
-use Rattle.lists.proofs.Rules.{None, and-left, and-right}
-use Rattle.lists.proofs.Rules as rules
-use Rattle.settings.specs.Settings.{settingsGood}
+use Rattle.lists.proofs.Rules.{None, by-cases}
 use Rattle.picture.specs.Slots.{slotPicture, withPicture}
 use Rattle.picture.specs.Regions.{regionCases, withRegion}
-use Rattle.bitmap.specs.Header.{fileLength}
-use Rattle.bitmap.specs.Bitmap.{bitmapGood, readPicture, writtenFile}
+use Rattle.bitmap.specs.Bitmap.{readPicture, writtenFile}
 use Rattle.run.specs.Clock.{passedAt}
 use Rattle.run.specs.Due.{dueOf}
 use Rattle.run.specs.Runs.{begun, waited}
@@ -26,24 +21,10 @@ use Rattle.poll.specs.HandOut.{Outcome, outcome, rowBytesIn, rowsIn, handOut}
 use Rattle.poll.specs.Poll.{pollAt, pollCases, pollRun}
 use Rattle.poll.specs.declared.Answer.the-variants.{Refused, Wait}
 use Rattle.poll.specs.declared.Phase.the-variants.{Abandoned, Running}
-use Rattle.board.specs.State.{fileOf, withPhase, storeBytes, storeCases, emptyState, openedState}
-use Rattle.board.specs.Calls.{isRunning, isAbandoned, takesPictures, strideIn, reply, opening, uploadCases, regionUpload, bitmapUpload, starting, abandoning, Polling, polling, pollPhase, polled, bitmapWrite}
+use Rattle.board.specs.State.{fileOf, withPhase, storeCases, emptyState, openedState}
+use Rattle.board.specs.Calls.{strideIn, reply, openCases, opening, uploadCases, regionUpload, bitmapCases, bitmapUpload, startCases, starting, abandonCases, abandoning, Polling, polling, pollPhase, polled, writeCases, bitmapWrite}
 use Rattle.board.specs.declared.State.{State}
 use Rattle.board.specs.declared.Reply.{Reply}
-
--- the number of every case refuses: none of them is 0
-abbrev pub allRefuse : List Case → Bool
-allRefuse [] = true
-allRefuse (case applies number ∷ cases) = not (eqb number 0) && allRefuse cases
-
-pub by-cases : {A : Type 0} (P : A → Type 0) (cases : List Case) (refused : ℕ → A) (accepted : A) → allRefuse cases ≡ true
-    → ((number : ℕ) → eqb number 0 ≡ false → P (refused number)) → (None cases → P accepted) → P (firstOf cases refused accepted)
-by-cases P [] refused accepted e ifRefused ifAccepted = ifAccepted rules.none
-by-cases P (case true number ∷ cases) refused accepted e ifRefused ifAccepted =
-    ifRefused number (not-true _ (and-left (not (eqb number 0)) (allRefuse cases) e))
-by-cases P (case false number ∷ cases) refused accepted e ifRefused ifAccepted =
-    by-cases P cases refused accepted (and-right (not (eqb number 0)) (allRefuse cases) e) ifRefused
-    (λ rest. ifAccepted (rules.past refl rest))
 
 -- what holds of both holds, whichever a test picks
 by-test : {A : Type 0} (P : A → Type 0) (test : Bool) (a b : A) → P a → P b → P (cond test a b)
@@ -52,19 +33,13 @@ by-test P false a b ifTrue ifFalse = ifFalse
 
 -- ---- opening
 
-abbrev pub openingCases : (file : List ℕ) (n memoryLength : ℕ) → List Case
-openingCases file n memoryLength =
-    case (not (settingsGood file)) 2
-    ∷ case (not (leb 1 n && leb n 7 && eqb memoryLength (storeBytes file n))) 1
-    ∷ []
-
 pub by-opening : (file : List ℕ) (n : ℕ) (memory : List ℕ) (P : Reply × List ℕ → Type 0)
     → ((number : ℕ) → eqb number 0 ≡ false → P (reply number emptyState, memory))
-    → (None (openingCases file n (length memory)) → P (reply 0 (openedState file n), replicate (length memory) 0xFF))
+    → (None (openCases file n (length memory)) → P (reply 0 (openedState file n), replicate (length memory) 0xFF))
     → P (opening file n memory)
 unfolding opening
 by-opening file n memory P =
-    by-cases P (openingCases file n (length memory)) (λ number. (reply number emptyState, memory))
+    by-cases P (openCases file n (length memory)) (λ number. (reply number emptyState, memory))
     (reply 0 (openedState file n), replicate (length memory) 0xFF) refl
 
 -- ---- the calls on a store: each is a refusal, or what it does where none of its cases applies
@@ -93,46 +68,33 @@ module _ (state : State) (memory : List ℕ) where
       (λ number. (reply number state, memory)) (reply 0 state, withRegion b h memory slot x y width height payload) refl
 
   pub by-bitmap : (slot : ℕ) (file : List ℕ) (P : Reply × List ℕ → Type 0) → IfRefused P memory
-      → (None (uploadCases state (length memory) slot ++ (case (not (bitmapGood b h s file)) 4 ∷ []))
+      → (None (uploadCases state (length memory) slot ++ bitmapCases (fileOf state) file)
       → P (reply 0 state, withPicture b h memory slot (readPicture b h s file)))
       → P (bitmapUpload state memory slot file)
   unfolding bitmapUpload
   by-bitmap slot file P =
-      by-cases P (uploadCases state (length memory) slot ++ (case (not (bitmapGood b h s file)) 4 ∷ []))
+      by-cases P (uploadCases state (length memory) slot ++ bitmapCases (fileOf state) file)
       (λ number. (reply number state, memory)) (reply 0 state, withPicture b h memory slot (readPicture b h s file)) refl
 
-  abbrev pub startCases : (slot : ℕ) → List Case
-  startCases slot =
-      storeCases state (length memory)
-      ++ (case (isRunning (state .phase)) 8
-      ∷ case (isAbandoned (state .phase)) 12
-      ∷ case (not (takesPictures (state .slots) slot)) 3
-      ∷ [])
-
   pub by-start : (slot : ℕ) (tick : Tick) (P : Reply → Type 0) → ((number : ℕ) → eqb number 0 ≡ false → P (reply number state))
-      → (None (startCases slot) → P (reply 0 (withPhase state (Running (begun slot tick)))))
+      → (None (startCases state (length memory) slot) → P (reply 0 (withPhase state (Running (begun slot tick)))))
       → P (starting state (length memory) slot tick)
   unfolding starting
   by-start slot tick P =
-      by-cases P (startCases slot) (λ number. reply number state) (reply 0 (withPhase state (Running (begun slot tick)))) refl
-
-  abbrev pub abandonCases : List Case
-  abandonCases = storeCases state (length memory) ++ (case (not (isRunning (state .phase))) 9 ∷ [])
+      by-cases P (startCases state (length memory) slot) (λ number. reply number state) (reply 0 (withPhase state (Running (begun slot tick)))) refl
 
   pub by-abandon : (P : Reply → Type 0) → ((number : ℕ) → eqb number 0 ≡ false → P (reply number state))
-      → (None abandonCases → P (reply 0 (withPhase state Abandoned)))
+      → (None (abandonCases state (length memory)) → P (reply 0 (withPhase state Abandoned)))
       → P (abandoning state (length memory))
   unfolding abandoning
-  by-abandon P = by-cases P abandonCases (λ number. reply number state) (reply 0 (withPhase state Abandoned)) refl
+  by-abandon P = by-cases P (abandonCases state (length memory)) (λ number. reply number state) (reply 0 (withPhase state Abandoned)) refl
 
   pub by-write : (slot : ℕ) (out : List ℕ) (P : Reply × List ℕ → Type 0) → IfRefused P out
       → P (reply 0 state, overlay (writtenFile b h s (slotPicture b h memory slot)) out)
       → P (bitmapWrite state memory slot out)
   unfolding bitmapWrite
   by-write slot out P ifRefused ifAccepted =
-      by-cases P
-      (storeCases state (length memory)
-      ++ (case (ltb (state .slots) slot) 3 ∷ case (ltb (length out) (fileLength h s)) 11 ∷ []))
+      by-cases P (writeCases state (length memory) slot (length out))
       (λ number. (reply number state, out)) (reply 0 state, overlay (writtenFile b h s (slotPicture b h memory slot)) out) refl
       ifRefused (λ none. ifAccepted)
 

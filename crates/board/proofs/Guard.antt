@@ -1,20 +1,20 @@
--- Numbers of refusals, list by list; and what a valid state has.
+-- What an accepted file and a valid state have, and the refusals that every call on a store begins with.
 -- Assumes nothing.
 use mathlib.Core.Path.{_≡_, refl, sym, ap, _∙_, subst}
-use mathlib.Core.Bool.{Bool, true, false, not, _&&_}
-use mathlib.Core.List.{List, [], _∷_, _++_}
+use mathlib.Core.Bool.{true, false}
+use mathlib.Core.List.{List, _++_}
 use Prim.Native.Nat.{ℕ, suc, _+_, _-_, _*_, _≤_, _<_}
 use native.Mathlib.Nat.{mul-le-mul, add-sub-cancel-left}
 use native.Mathlib.Numerals.{add-one}
 use native.Mathlib.Omega.{arith}
-use borrow.Author.Tests.{leb-true, ltb-true, eqb-true, le-leb, eq-eqb, ne-eqb, not-false}
+use borrow.Author.Tests.{leb-true, eqb-true, le-leb, eq-eqb, ne-eqb, not-false}
 use mir.Syntax.{w64}
 use mir.Val.{Fits}
-use lib.Dec.{eqb, ltb}
+use lib.Dec.{eqb}
 use lib.ListN.{length, getD, take, drop}
 use lib.Seq.{length-take-le}
-use Rattle.lists.specs.Rules.{every, Case, case, firstOf}
-use Rattle.lists.proofs.Rules.{and-left, and-right, broken, holds, decides, none, keep, First, None, past, given, taken}
+use Rattle.lists.specs.Rules.{Case, firstOf}
+use Rattle.lists.proofs.Rules.{broken, holds, decides, none, keep, First, None, past, given, taken, none-of, some-append, none-append}
 use Rattle.lists.proofs.Parts.{more-rows, part-length}
 use Rattle.panel.specs.Panels.{rowBytesOf, rowsOf, strideOf}
 use Rattle.panel.proofs.Panels.{Size, size-of}
@@ -26,50 +26,6 @@ use Rattle.board.specs.Calls.{strideIn}
 use Rattle.board.specs.Facts.{SizesIn, SlotIn}
 use Rattle.board.specs.declared.State.{State}
 use Rattle.board.specs.declared.Sizes.{Sizes}
-
--- ---- refusals
-
--- those of two lists
-pub first-append : {A : Type 0} (cs ds : List Case) (refused : ℕ → A) (accepted : A)
-    → firstOf (cs ++ ds) refused accepted ≡ firstOf cs refused (firstOf ds refused accepted)
-first-append [] ds refused accepted = refl
-first-append (case true n ∷ cs) ds refused accepted = refl
-first-append (case false n ∷ cs) ds refused accepted = first-append cs ds refused accepted
-
--- no case has the number 0
-abbrev pub numbered : List Case → Bool
-numbered [] = true
-numbered (case test n ∷ cs) = ltb 0 n && numbered cs
-
--- a number that was computed of a list of cases: a refusal where it is not 0, and none where it is
-module _ {A : Type 0} (cs : List Case) (refused : ℕ → A) (accepted : A) where
-  pub some-number : {r : ℕ} → r ≡ firstOf cs (λ n. n) 0 → (r ≡ 0 → ⊥) → refused r ≡ firstOf cs refused accepted
-  some-number = number cs where
-    number : (cs : List Case) {r : ℕ} → r ≡ firstOf cs (λ n. n) 0 → (r ≡ 0 → ⊥) → refused r ≡ firstOf cs refused accepted
-    number [] e h = absurd (h e)
-    number (case true n ∷ cs) e h = ap refused e
-    number (case false n ∷ cs) e h = number cs e h
-
-pub none-of : (cs : List Case) → numbered cs ≡ true → {r : ℕ} → r ≡ firstOf cs (λ n. n) 0 → r ≡ 0 → None cs
-none-of [] p e z = none
-none-of (case true n ∷ cs) p e z =
-    let h : 0 < n = ltb-true 0 n (and-left (ltb 0 n) (numbered cs) p) in
-    absurd (omega arith)
-none-of (case false n ∷ cs) p e z = past refl (none-of cs (and-right (ltb 0 n) (numbered cs) p) e z)
-
-module _ {A : Type 0} (cs ds : List Case) (refused : ℕ → A) (accepted : A) where
-  pub some-append : {r : ℕ} → r ≡ firstOf cs (λ n. n) 0 → (r ≡ 0 → ⊥) → refused r ≡ firstOf (cs ++ ds) refused accepted
-  some-append is d = some-number cs refused (firstOf ds refused accepted) is d ∙ sym (first-append cs ds refused accepted)
-
-  pub none-append : None cs → firstOf ds refused accepted ≡ firstOf (cs ++ ds) refused accepted
-  none-append free = sym (first-append cs ds refused accepted ∙ taken cs refused (firstOf ds refused accepted) free)
-
--- one more thing done to every answer
-pub first-map : {A B : Type 0} (g : A → B) (cs : List Case) (refused : ℕ → A) (accepted : A)
-    → g (firstOf cs refused accepted) ≡ firstOf cs (λ n. g (refused n)) (g accepted)
-first-map g [] refused accepted = refl
-first-map g (case true n ∷ cs) refused accepted = refl
-first-map g (case false n ∷ cs) refused accepted = first-map g cs refused accepted
 
 -- ---- the panel of an accepted file
 

@@ -9,7 +9,7 @@ use borrow.Author.Tests.{not-false, leb-true, le-leb, ltb-false, eqb-false}
 use lib.Dec.{eqb, leb, ltb}
 use lib.ListN.{length, drop, replicate, length-replicate}
 use Rattle.lists.proofs.Lists.{length-overlay}
-use Rattle.lists.proofs.Rules.{None, none, keep, all-kept, holds, and-left, and-right}
+use Rattle.lists.proofs.Rules.{None, none, keep, all-kept, holds, and-left, and-right, by-cases}
 use Rattle.lists.proofs.Rules as rules
 use Rattle.settings.specs.Settings.{Step, startSteps, stopSteps, settingsGood, longestFile}
 use Rattle.settings.specs.Steps.{fromWrite}
@@ -30,11 +30,11 @@ use Rattle.poll.specs.declared.Answer.the-variants.{Refused}
 use Rattle.poll.specs.declared.Phase.{Phase}
 use Rattle.poll.specs.declared.Phase.the-variants.{Idle, Abandoned, Running}
 use Rattle.board.specs.State.{fileOf, withPhase, phaseValid, stateRules, stateValid, storeBytes, openedState}
-use Rattle.board.specs.Calls.{Polling, polling, inState, pollPhase, opening, polled}
+use Rattle.board.specs.Calls.{Polling, polling, inState, pollPhase, opening, polled, openCases, startCases}
 use Rattle.board.specs.History.{Call, uploadRegion, uploadBitmap, start, poll, abandon, writeBitmap, isAccepted, ofPoll, callOn}
 use Rattle.board.specs.Progress.{stateAfter}
 use Rattle.board.specs.declared.State.{State}
-use Rattle.board.proofs.Cases.{by-cases, openingCases, by-opening, by-region, by-bitmap, startCases, by-start, by-abandon, by-write, by-poll}
+use Rattle.board.proofs.Cases.{by-opening, by-region, by-bitmap, by-start, by-abandon, by-write, by-poll}
 use Rattle.board.proofs.Opening.{opened-file}
 use Rattle.board.proofs.Refusals.{givenBy}
 use Rattle.board.proofs.Invalid.{was-valid}
@@ -115,7 +115,7 @@ stays-valid state memory (uploadBitmap slot file) valid =
 stays-valid state memory (start slot tick) valid =
     by-start state memory slot tick (λ r. stateValid (r .state) ≡ true) (λ number e. valid) started
   where
-    started : None (startCases state memory slot) → stateValid (withPhase state (Running (begun slot tick))) ≡ true
+    started : None (startCases state (length memory) slot) → stateValid (withPhase state (Running (begun slot tick))) ≡ true
     started (rules.past valid′ (rules.past exact (rules.past idle (rules.past whole (rules.past takes rest))))) =
         let low = leb 1 slot in
         let high = leb slot (state .slots) in
@@ -181,7 +181,7 @@ opened-valid file n memory =
     by-opening file n memory (λ r. r .0 .number ≡ 0 → stateValid (r .0 .state) ≡ true)
     (λ number e z. absurd (eqb-false number 0 e z)) accepted
   where
-    accepted : None (openingCases file n (length memory)) → _≡_ {A = ℕ} 0 0 → stateValid (openedState file n) ≡ true
+    accepted : None (openCases file n (length memory)) → _≡_ {A = ℕ} 0 0 → stateValid (openedState file n) ≡ true
     accepted (rules.past good (rules.past sized rest)) z =
         opened-kept file n (not-false _ good)
         (and-left (leb 1 n && leb n 7) (eqb (length memory) (storeBytes file n)) (not-false _ sized))

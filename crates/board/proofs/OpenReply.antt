@@ -9,15 +9,13 @@ use borrow.Author.Tests.{le-leb, lt-leb, eq-eqb, ne-eqb, not-false}
 use lib.ListN.{length, replicate, length-replicate}
 use Rattle.lists.specs.Lists.{overlayAt}
 use Rattle.lists.specs.Rules.{firstOf}
-use Rattle.lists.proofs.Rules.{None, past, taken}
+use Rattle.lists.proofs.Rules.{None, past, taken, some-number, none-of}
 use Rattle.lists.proofs.Lists.{overlay-whole}
 use Rattle.settings.specs.Settings.{settingsGood, longestFile}
 use Rattle.settings.proofs.Accepted.{good-short}
 use Rattle.board.specs.State.{storeBytes, emptyState, openedState}
-use Rattle.board.specs.Calls.{reply, opening}
-use Rattle.board.specs.Facts.{openCases}
+use Rattle.board.specs.Calls.{reply, opening, openCases}
 use Rattle.board.specs.declared.State.{State}
-use Rattle.board.proofs.Guard.{some-number, none-of}
 
 -- ---- the number
 

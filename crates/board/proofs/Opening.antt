@@ -19,9 +19,9 @@ use Rattle.panel.specs.Dots.{bit, dot}
 use Rattle.settings.specs.Settings.{settingsGood, longestFile}
 use Rattle.picture.specs.Slots.{slotBytes, slotPicture}
 use Rattle.board.specs.State.{fileOf, storeBytes, openedState}
-use Rattle.board.specs.Calls.{reply, opening}
+use Rattle.board.specs.Calls.{reply, opening, openCases}
 use Rattle.board.specs.declared.Reply.{Reply}
-use Rattle.board.proofs.Cases.{openingCases, by-opening}
+use Rattle.board.proofs.Cases.{by-opening}
 use Rattle.board.proofs.Stores.{blank-picture}
 
 -- ---- the call
@@ -35,7 +35,7 @@ pub opened : (file : List ℕ) (n : ℕ) (lent : List ℕ) → opening file n le
 opened file n lent =
     by-opening file n lent (λ r. r .0 .number ≡ 0 → Opened file n lent r) (λ number e z. absurd (eqb-false number 0 e z)) accepted
   where
-    accepted : None (openingCases file n (length lent)) → _≡_ {A = ℕ} 0 0
+    accepted : None (openCases file n (length lent)) → _≡_ {A = ℕ} 0 0
         → Opened file n lent (reply 0 (openedState file n), replicate (length lent) 0xFF)
     accepted (rules.past good (rules.past sized rest)) z =
         record {

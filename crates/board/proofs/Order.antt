@@ -10,6 +10,7 @@ use lib.ListN.{drop}
 use Rattle.settings.specs.Settings.{Step, panelOf, startSteps, stopSteps, settingsGood}
 use Rattle.settings.specs.Steps.{fromWrite}
 use Rattle.settings.proofs.Accepted.{good-panel, length-starts, length-stops}
+use Rattle.settings.proofs.Steps.{all-from}
 use Rattle.run.specs.Due.{runFrames}
 use Rattle.run.specs.Conditions.{runValid}
 use Rattle.run.specs.declared.Tick.{Tick}
@@ -24,7 +25,7 @@ use Rattle.poll.specs.HandOut.{Outcome, rowsIn, handStart, handStop, handOut}
 use Rattle.poll.specs.Poll.{pollRun}
 use Rattle.board.specs.Order.{Thing, aWrite, aLine, theEnd, writesOf, stagesFrom, thingsOfRun, thingsFrom, InOrder}
 use Rattle.board.proofs.Cases.{by-run}
-use Rattle.board.proofs.Things.{writes-from, all-from, first-write, behind-write, lines-begin, line-first}
+use Rattle.board.proofs.Things.{writes-from, first-write, behind-write, lines-begin, line-first}
 
 -- at its start, all of a run is to come
 pub from-start : (file : List ℕ) → thingsFrom file (Start 0) ≡ thingsOfRun file

@@ -8,7 +8,7 @@ use native.Mathlib.Numerals.{add-one}
 use native.Mathlib.Omega.{arith}
 use lib.ListN.{length, getD}
 use Rattle.lists.specs.Rules.{firstOf}
-use Rattle.lists.proofs.Rules.{None, taken, holds}
+use Rattle.lists.proofs.Rules.{None, taken, holds, some-number, none-of}
 use Rattle.lists.proofs.Parts.{more-rows}
 use Rattle.run.specs.Conditions.{runValid}
 use Rattle.run.specs.declared.Tick.{Tick}
@@ -23,7 +23,7 @@ use Rattle.poll.specs.declared.Phase.the-variants.{Running}
 use Rattle.board.specs.State.{fileOf, withPhase, phaseValid, stateRules, stateValid, storeBytes, storeCases}
 use Rattle.board.specs.Calls.{Polling, polling, inState, pollPhase, polled}
 use Rattle.board.specs.declared.State.{State}
-use Rattle.board.proofs.Guard.{some-number, none-of, store-valid}
+use Rattle.board.proofs.Guard.{store-valid}
 
 module _ (state : State) (tick : Tick) (memory out : List ℕ) {r : ℕ} (is : r ≡ firstOf (storeCases state (length memory)) (λ n. n) 0) where
   pub poll-refused : (r ≡ 0 → ⊥) → polling (Refused r) state memory out ≡ polled state tick memory out

@@ -8,14 +8,13 @@ use Prim.Native.Nat.{ℕ, _+_, _-_, _*_, _/_, _%_, _≤_, _<_}
 use native.Mathlib.Decide.{decLt}
 use native.Mathlib.Omega.{arith}
 use borrow.Author.Tests.{not-false, leb-true, ltb-false, le-leb, le-ltb, eqb-false}
-use lib.Dec.{eqb, leb, ltb}
+use lib.Dec.{eqb, leb}
 use lib.ListN.{length, getD, take, drop, length-take, List·getD-eq-default}
 use lib.Seq.{getD-take, getD-drop}
 use Rattle.lists.specs.Lists.{overlay}
-use Rattle.lists.specs.Rules.{Case, case}
 use Rattle.lists.proofs.Lists.{getD-tabulate, take-overlay}
 use Rattle.lists.proofs.Parts.{more-rows, part-length}
-use Rattle.lists.proofs.Rules.{None, and-right, taken}
+use Rattle.lists.proofs.Rules.{None, and-right, taken, by-cases}
 use Rattle.lists.proofs.Rules as rules
 use Rattle.picture.specs.Slots.{slotBytes, withBytes, slotPicture, withPicture}
 use Rattle.picture.proofs.Pictures.{Bytes}
@@ -25,10 +24,10 @@ use Rattle.bitmap.specs.Bitmap.{bitmapGood, readPicture, writtenFile, normalFor
 use Rattle.bitmap.proofs.RoundTrip.{length-file, length-read, read-written, write-read, read-normal, good-written}
 use Rattle.poll.specs.HandOut.{rowBytesIn, rowsIn}
 use Rattle.board.specs.State.{fileOf, storeBytes, storeCases}
-use Rattle.board.specs.Calls.{isRunsSlot, takesPictures, strideIn, reply, uploadCases, bitmapUpload, bitmapWrite}
+use Rattle.board.specs.Calls.{isRunsSlot, takesPictures, strideIn, reply, uploadCases, bitmapCases, bitmapUpload, writeCases, bitmapWrite}
 use Rattle.board.specs.declared.State.{State}
 use Rattle.board.specs.declared.Reply.{Reply}
-use Rattle.board.proofs.Cases.{by-cases, by-bitmap}
+use Rattle.board.proofs.Cases.{by-bitmap}
 use Rattle.board.proofs.Stores.{passed, size-in}
 
 -- ---- bytes stay bytes
@@ -87,29 +86,22 @@ module _ (state : State) where
   s = strideIn (fileOf state)
 
   module _ (memory : List ℕ) (slot : ℕ) where
-    abbrev writeCases : (outLength : ℕ) → List Case
-    writeCases outLength =
-        storeCases state (length memory) ++ (case (ltb (state .slots) slot) 3 ∷ case (ltb outLength (fileLength h s)) 11 ∷ [])
-
     slot-fits : length memory ≡ storeBytes (fileOf state) (state .slots) → slot ≤ state .slots → slot * (h * b) + h * b ≤ length memory
     slot-fits exact le = rw exact (more-rows slot (state .slots + 1) (h * b) (omega arith))
 
     -- the two calls where nothing refuses them
-    writes : (out : List ℕ) → None (writeCases (length out))
+    writes : (out : List ℕ) → None (writeCases state (length memory) slot (length out))
         → bitmapWrite state memory slot out ≡ (reply 0 state, overlay (writtenFile b h s (slotPicture b h memory slot)) out)
     unfolding bitmapWrite
     writes out fine =
-        taken (writeCases (length out)) (λ number. (reply number state, out))
+        taken (writeCases state (length memory) slot (length out)) (λ number. (reply number state, out))
         (reply 0 state, overlay (writtenFile b h s (slotPicture b h memory slot)) out) fine
 
-    abbrev bitmapCases : (file : List ℕ) → List Case
-    bitmapCases file = uploadCases state (length memory) slot ++ (case (not (bitmapGood b h s file)) 4 ∷ [])
-
-    uploads : (file : List ℕ) → None (bitmapCases file)
+    uploads : (file : List ℕ) → None (uploadCases state (length memory) slot ++ bitmapCases (fileOf state) file)
         → bitmapUpload state memory slot file ≡ (reply 0 state, withPicture b h memory slot (readPicture b h s file))
     unfolding bitmapUpload
     uploads file fine =
-        taken (bitmapCases file) (λ number. (reply number state, memory))
+        taken (uploadCases state (length memory) slot ++ bitmapCases (fileOf state) file) (λ number. (reply number state, memory))
         (reply 0 state, withPicture b h memory slot (readPicture b h s file)) fine
 
   -- ---- the round trips
@@ -131,7 +123,7 @@ module _ (state : State) where
         after : List ℕ
         after = withPicture b h memory slot picture
 
-        stored : None (bitmapCases memory slot file) → _≡_ {A = ℕ} 0 0
+        stored : None (uploadCases state (length memory) slot ++ bitmapCases (fileOf state) file) → _≡_ {A = ℕ} 0 0
             → bitmapWrite state after slot out ≡ (reply 0 state, overlay (normalForm b h s file) out)
         stored (rules.past valid (rules.past exact (rules.past takes rest))) z =
             let ok = passed state memory valid exact in
@@ -155,7 +147,7 @@ module _ (state : State) where
     write-upload out bytes accepted low free =
         by-cases
         (λ (r : Reply × List ℕ). r .0 .number ≡ 0 → bitmapUpload state memory slot (take (fileLength h s) (r .1)) ≡ (reply 0 state, memory))
-        (writeCases memory slot (length out)) (λ number. (reply number state, out))
+        (writeCases state (length memory) slot (length out)) (λ number. (reply number state, out))
         (reply 0 state, overlay (writtenFile b h s (slotPicture b h memory slot)) out) refl
         (λ number e z. absurd (eqb-false number 0 e z)) written accepted
       where
@@ -165,7 +157,7 @@ module _ (state : State) where
         file : List ℕ
         file = writtenFile b h s picture
 
-        written : None (writeCases memory slot (length out)) → _≡_ {A = ℕ} 0 0
+        written : None (writeCases state (length memory) slot (length out)) → _≡_ {A = ℕ} 0 0
             → bitmapUpload state memory slot (take (fileLength h s) (overlay file out)) ≡ (reply 0 state, memory)
         written (rules.past valid (rules.past exact (rules.past in-store rest))) z =
             let ok = passed state memory valid exact in
@@ -191,7 +183,7 @@ module _ (state : State) where
         (λ r. r .0 .number ≡ 0 → bitmapUpload state memory slot (normalForm b h s file) ≡ r)
         (λ number e z. absurd (eqb-false number 0 e z)) again accepted
       where
-        again : None (bitmapCases memory slot file) → _≡_ {A = ℕ} 0 0
+        again : None (uploadCases state (length memory) slot ++ bitmapCases (fileOf state) file) → _≡_ {A = ℕ} 0 0
             → bitmapUpload state memory slot (normalForm b h s file)
             ≡ (reply 0 state, withPicture b h memory slot (readPicture b h s file))
         again (rules.past valid (rules.past exact (rules.past takes (rules.past free rest)))) z =

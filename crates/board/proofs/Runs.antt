@@ -4,6 +4,7 @@ use mathlib.Core.Path.{_≡_, refl, sym}
 use mathlib.Core.Bool.{false, not, false≢true}
 use mathlib.Core.List.{List, []}
 use Prim.Native.Nat.{ℕ}
+use lib.ListN.{length}
 use Rattle.lists.proofs.Rules.{None}
 use Rattle.lists.proofs.Rules as rules
 use Rattle.panel.specs.Dots.{dot}
@@ -17,10 +18,10 @@ use Rattle.poll.specs.HandOut.{rowBytesIn, rowsIn}
 use Rattle.poll.specs.declared.Phase.{Phase}
 use Rattle.poll.specs.declared.Phase.the-variants.{Abandoned, Running}
 use Rattle.board.specs.State.{fileOf, withPhase}
-use Rattle.board.specs.Calls.{isRunning, isAbandoned, reply}
+use Rattle.board.specs.Calls.{isRunning, isAbandoned, reply, startCases, abandonCases}
 use Rattle.board.specs.History.{start, abandon, writeBitmap, abandoned, ofReply, callOn, Seen}
 use Rattle.board.specs.declared.State.{State}
-use Rattle.board.proofs.Cases.{startCases, by-start, abandonCases, by-abandon, by-write}
+use Rattle.board.proofs.Cases.{by-start, by-abandon, by-write}
 use Rattle.board.proofs.Views.{Sees, rests, runs, stopped, Agree, Leads, AgreeIn, OneMove, silent-none, no-move}
 
 -- ---- on pictures of any size
@@ -68,7 +69,7 @@ module _ (state : State) (memory : List ℕ) (seen : Seen) (view : View)
       (λ number e. record { file-kept = refl; leads = rw e (no-move (fileOf state) agree) })
       accepted
     where
-      accepted : None (startCases state memory slot)
+      accepted : None (startCases state (length memory) slot)
           → OneMove (fileOf state) view seen
           (ofReply (start slot tick) memory (reply 0 (withPhase state (Running (begun slot tick)))) memory)
       accepted (rules.past valid (rules.past exact (rules.past idle (rules.past whole rest)))) =
@@ -87,7 +88,7 @@ module _ (state : State) (memory : List ℕ) (seen : Seen) (view : View)
       (λ number e. record { file-kept = refl; leads = rw e (no-move (fileOf state) agree) })
       accepted
     where
-      accepted : None (abandonCases state memory)
+      accepted : None (abandonCases state (length memory))
           → OneMove (fileOf state) view seen (ofReply abandon memory (reply 0 (withPhase state Abandoned)) memory)
       accepted (rules.past valid (rules.past exact (rules.past running rest))) =
           record { file-kept = refl; leads = leaves b h N memory seen running agree }

@@ -3,16 +3,14 @@
 use mathlib.Core.Path.{_≡_, refl, sym}
 use Prim.Native.Nat.{ℕ}
 use Rattle.lists.specs.Rules.{firstOf}
-use Rattle.lists.proofs.Rules.{taken}
+use Rattle.lists.proofs.Rules.{taken, some-number, none-of}
 use Rattle.run.specs.Runs.{begun}
 use Rattle.run.specs.declared.Run.{Run}
 use Rattle.run.specs.declared.Tick.{Tick}
 use Rattle.poll.specs.declared.Phase.the-variants.{Abandoned, Running}
 use Rattle.board.specs.State.{withPhase}
-use Rattle.board.specs.Calls.{reply, starting, abandoning}
-use Rattle.board.specs.Facts.{startCases, abandonCases}
+use Rattle.board.specs.Calls.{reply, starting, abandoning, startCases, abandonCases}
 use Rattle.board.specs.declared.State.{State}
-use Rattle.board.proofs.Guard.{some-number, none-of}
 
 module _ (state : State) (m slot : ℕ) (tick : Tick) {r : ℕ} (is : r ≡ firstOf (startCases state m slot) (λ n. n) 0) where
   pub start-refused : (r ≡ 0 → ⊥) → reply r state ≡ starting state m slot tick

@@ -9,7 +9,6 @@ use native.Mathlib.Nat.{sub-zero}
 use native.Mathlib.Omega.{arith}
 use lib.ListN.{length, take, drop, length-append, take-append-drop}
 use lib.Seq.{drop-at}
-use Rattle.lists.proofs.Rules.{and-right}
 use Rattle.settings.specs.Settings.{Step, write, wait, malformed, isStep, allSteps, stopSteps}
 use Rattle.settings.specs.Steps.{fromWrite}
 use Rattle.run.specs.Due.{runFrames}
@@ -39,11 +38,6 @@ writes-from [] = refl
 writes-from (wait ms ∷ steps) = writes-from steps
 writes-from (write register bytes ∷ steps) = refl
 writes-from (malformed ∷ steps) = refl
-
-pub all-from : (k : ℕ) (steps : List Step) → allSteps steps ≡ true → allSteps (drop k steps) ≡ true
-all-from zero steps e = e
-all-from (suc k) [] e = e
-all-from (suc k) (step ∷ steps) e = all-from k steps (and-right (isStep step) (allSteps steps) e)
 
 -- the next write is the first of the writes
 pub first-write : (steps : List Step) (step : Step) (rest : List Step) → allSteps steps ≡ true → fromWrite steps ≡ step ∷ rest

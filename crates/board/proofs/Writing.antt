@@ -12,17 +12,17 @@ use lib.Dec.{ltb}
 use lib.ListN.{length, take, drop}
 use Rattle.lists.specs.Lists.{overlay}
 use Rattle.lists.specs.Rules.{firstOf}
-use Rattle.lists.proofs.Rules.{None, past, taken}
+use Rattle.lists.proofs.Rules.{None, past, taken, some-number, none-of}
 use Rattle.picture.specs.Slots.{pictureOf, slotBytes, slotPicture}
 use Rattle.bitmap.specs.Header.{fileLength}
 use Rattle.bitmap.specs.Bitmap.{writtenFile}
 use Rattle.poll.specs.HandOut.{rowBytesIn, rowsIn}
 use Rattle.board.specs.State.{fileOf}
-use Rattle.board.specs.Calls.{reply, strideIn, bitmapWrite}
-use Rattle.board.specs.Facts.{SizesIn, SlotIn, writeOwn, writeCases}
+use Rattle.board.specs.Calls.{reply, strideIn, bitmapWrite, writeOwn, writeCases}
+use Rattle.board.specs.Facts.{SizesIn, SlotIn}
 use Rattle.board.specs.declared.Sizes.{Sizes}
 use Rattle.board.specs.declared.State.{State}
-use Rattle.board.proofs.Guard.{some-number, none-of, at-panel, call-store, store-slot}
+use Rattle.board.proofs.Guard.{at-panel, call-store, store-slot}
 
 -- a file that is written of the lent bytes of a slot is the one of its picture
 pub slot-written : (file : List ℕ) {r : Sizes} → SizesIn file r → (memory : List ℕ) (slot : ℕ) (out : List ℕ) {after : List ℕ}

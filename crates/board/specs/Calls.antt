@@ -1,5 +1,6 @@
 -- Document 01, "Store and bitmaps", "The run and its time" and "Numbers given back": what each call does, on any input. A refusal is
--- its number and the state as given; every lent byte stays.
+-- its number and the state as given; every lent byte stays. The cases of a call are its refusals in order; those that a call adds to
+-- the store's 13 and 1 are its own.
 -- Assumes nothing.
 use Prim.Native.Nat.{ℕ}
 use mathlib.Core.Bool.{Bool, true, false, not, _&&_}
@@ -57,21 +58,28 @@ strideIn file = strideOf (panelOf file)
 
 -- ---- opening: 2, 1; else all slots white
 
+abbrev pub openCases : (file : List ℕ) (n memoryLength : ℕ) → List Case
+openCases file n memoryLength =
+    case (not (settingsGood file)) 2
+    ∷ case (not (leb 1 n && leb n 7 && eqb memoryLength (storeBytes file n))) 1
+    ∷ []
+
 unfoldable pub opening : (file : List ℕ) (n : ℕ) (memory : List ℕ) → Reply × List ℕ
 opening file n memory =
-    firstOf
-    (case (not (settingsGood file)) 2
-    ∷ case (not (leb 1 n && leb n 7 && eqb (length memory) (storeBytes file n))) 1
-    ∷ [])
+    firstOf (openCases file n (length memory))
     (λ number. (reply number emptyState, memory))
     (reply 0 (openedState file n), replicate (length memory) 0xFF)
 
 -- ---- uploads: 13, 1, 3, 7, then 5, 6, or 4
 
+abbrev pub uploadOwn : (state : State) (slot : ℕ) → List Case
+uploadOwn state slot = case (not (takesPictures (state .slots) slot)) 3 ∷ case (isRunsSlot (state .phase) slot) 7 ∷ []
+
 abbrev pub uploadCases : (state : State) (memoryLength slot : ℕ) → List Case
-uploadCases state memoryLength slot =
-    storeCases state memoryLength
-    ++ (case (not (takesPictures (state .slots) slot)) 3 ∷ case (isRunsSlot (state .phase) slot) 7 ∷ [])
+uploadCases state memoryLength slot = storeCases state memoryLength ++ uploadOwn state slot
+
+abbrev pub bitmapCases : (settings file : List ℕ) → List Case
+bitmapCases settings file = case (not (bitmapGood (rowBytesIn settings) (rowsIn settings) (strideIn settings) file)) 4 ∷ []
 
 unfoldable pub regionUpload : (state : State) (memory : List ℕ) (slot x y width height : ℕ) (payload : List ℕ) → Reply × List ℕ
 regionUpload state memory slot x y width height payload =
@@ -83,9 +91,7 @@ regionUpload state memory slot x y width height payload =
 
 unfoldable pub bitmapUpload : (state : State) (memory : List ℕ) (slot : ℕ) (file : List ℕ) → Reply × List ℕ
 bitmapUpload state memory slot file =
-    firstOf
-    (uploadCases state (length memory) slot
-    ++ (case (not (bitmapGood (rowBytesIn (fileOf state)) (rowsIn (fileOf state)) (strideIn (fileOf state)) file)) 4 ∷ []))
+    firstOf (uploadCases state (length memory) slot ++ bitmapCases (fileOf state) file)
     (λ number. (reply number state, memory)) (
       reply 0 state,
       withPicture (rowBytesIn (fileOf state)) (rowsIn (fileOf state)) memory slot
@@ -94,22 +100,33 @@ bitmapUpload state memory slot file =
 
 -- ---- start: 13, 1, 8, 12, 3
 
-unfoldable pub starting : (state : State) (memoryLength slot : ℕ) (tick : Tick) → Reply
-starting state memoryLength slot tick =
-    firstOf
-    (storeCases state memoryLength
-    ++ (case (isRunning (state .phase)) 8
+abbrev pub startOwn : (state : State) (slot : ℕ) → List Case
+startOwn state slot =
+    case (isRunning (state .phase)) 8
     ∷ case (isAbandoned (state .phase)) 12
     ∷ case (not (takesPictures (state .slots) slot)) 3
-    ∷ []))
+    ∷ []
+
+abbrev pub startCases : (state : State) (memoryLength slot : ℕ) → List Case
+startCases state memoryLength slot = storeCases state memoryLength ++ startOwn state slot
+
+unfoldable pub starting : (state : State) (memoryLength slot : ℕ) (tick : Tick) → Reply
+starting state memoryLength slot tick =
+    firstOf (startCases state memoryLength slot)
     (λ number. reply number state)
     (reply 0 (withPhase state (Running (begun slot tick))))
 
 -- ---- abandon: 13, 1, 9
 
+abbrev pub abandonOwn : (state : State) → List Case
+abandonOwn state = case (not (isRunning (state .phase))) 9 ∷ []
+
+abbrev pub abandonCases : (state : State) (memoryLength : ℕ) → List Case
+abandonCases state memoryLength = storeCases state memoryLength ++ abandonOwn state
+
 unfoldable pub abandoning : (state : State) (memoryLength : ℕ) → Reply
 abandoning state memoryLength =
-    firstOf (storeCases state memoryLength ++ (case (not (isRunning (state .phase))) 9 ∷ []))
+    firstOf (abandonCases state memoryLength)
     (λ number. reply number state)
     (reply 0 (withPhase state Abandoned))
 
@@ -135,13 +152,18 @@ polled state tick memory out =
 
 -- ---- the writer: 13, 1, 3, 11
 
+abbrev pub writeOwn : (state : State) (slot outLength : ℕ) → List Case
+writeOwn state slot outLength =
+    case (ltb (state .slots) slot) 3
+    ∷ case (ltb outLength (fileLength (rowsIn (fileOf state)) (strideIn (fileOf state)))) 11
+    ∷ []
+
+abbrev pub writeCases : (state : State) (memoryLength slot outLength : ℕ) → List Case
+writeCases state memoryLength slot outLength = storeCases state memoryLength ++ writeOwn state slot outLength
+
 unfoldable pub bitmapWrite : (state : State) (memory : List ℕ) (slot : ℕ) (out : List ℕ) → Reply × List ℕ
 bitmapWrite state memory slot out =
-    firstOf
-    (storeCases state (length memory)
-    ++ (case (ltb (state .slots) slot) 3
-    ∷ case (ltb (length out) (fileLength (rowsIn (fileOf state)) (strideIn (fileOf state)))) 11
-    ∷ []))
+    firstOf (writeCases state (length memory) slot (length out))
     (λ number. (reply number state, out)) (
       reply 0 state,
       overlay

@@ -22,14 +22,8 @@ use Rattle.listing.proofs.Text.{length-spaced, decimal-short}
 
 -- ---- the line of one step
 
--- a write whose data stand at index `from` + 2 of a file lies in the file, and its line shows them
+-- the line of a write shows the data that stand at index `from` + 2 of the file
 module _ (panel : ℕ) (file : List ℕ) (from register : ℕ) (e : kindOf (stepOf panel (drop from file)) ≡ Write register) where
-  pub write-fits : from ≤ length file → from + 2 + dataLength register ≤ length file
-  write-fits h =
-      let fits : sizeOf (write register (take (dataLength register) (drop 2 (drop from file)))) ≤ length (drop from file) =
-      rw (step-write panel register (drop from file) e) at (size-fits panel (drop from file)) in
-      omega (arith, fits, length-drop from file)
-
   pub write-line : (n : ℕ) → n ≡ dataLength register
       → stepLine (write register (take n (drop (from + 2) file))) ≡ stepLine (stepOf panel (drop from file))
   write-line n d = rw (step-write panel register (drop from file) e, d, drop-drop 2 from file)

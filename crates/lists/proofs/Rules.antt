@@ -8,7 +8,8 @@ use Prim.Native.Nat.{ℕ, zero, suc, _<_}
 use native.Mathlib.Nat.{not-suc-le-zero}
 use native.Mathlib.Decide.{ℕ-discrete}
 use native.Mathlib.Omega.{arith}
-use borrow.Author.Tests.{not-true, not-false}
+use borrow.Author.Tests.{not-true, not-false, ltb-true, ne-eqb}
+use lib.Dec.{eqb, ltb}
 use lib.ListN.{getD, set, take, drop}
 use Rattle.lists.specs.Rules.{every, allBelow, Case, case, firstOf}
 
@@ -116,3 +117,55 @@ given (case t m ∷ cs) refused accepted (past e rest) = rw e (given cs refused 
 pub taken : {A : Type 0} (cs : List Case) (refused : ℕ → A) (accepted : A) → None cs → firstOf cs refused accepted ≡ accepted
 taken [] refused accepted none = refl
 taken (case t m ∷ cs) refused accepted (past e rest) = rw e (taken cs refused accepted rest)
+
+-- no case has the number 0
+abbrev pub numbered : List Case → Bool
+numbered [] = true
+numbered (case test n ∷ cs) = ltb 0 n && numbered cs
+
+-- what holds of every refusal, and of what is accepted where no case applies, holds of the first of the cases
+pub by-cases : {A : Type 0} (P : A → Type 0) (cs : List Case) (refused : ℕ → A) (accepted : A) → numbered cs ≡ true
+    → ((n : ℕ) → eqb n 0 ≡ false → P (refused n)) → (None cs → P accepted) → P (firstOf cs refused accepted)
+by-cases P [] refused accepted e ifRefused ifAccepted = ifAccepted none
+by-cases P (case true n ∷ cs) refused accepted e ifRefused ifAccepted =
+    let h : 0 < n = ltb-true 0 n (and-left (ltb 0 n) (numbered cs) e) in
+    ifRefused n (ne-eqb n 0 (λ z. absurd (omega arith)))
+by-cases P (case false n ∷ cs) refused accepted e ifRefused ifAccepted =
+    by-cases P cs refused accepted (and-right (ltb 0 n) (numbered cs) e) ifRefused (λ rest. ifAccepted (past refl rest))
+
+-- the cases of two lists
+pub first-append : {A : Type 0} (cs ds : List Case) (refused : ℕ → A) (accepted : A)
+    → firstOf (cs ++ ds) refused accepted ≡ firstOf cs refused (firstOf ds refused accepted)
+first-append [] ds refused accepted = refl
+first-append (case true n ∷ cs) ds refused accepted = refl
+first-append (case false n ∷ cs) ds refused accepted = first-append cs ds refused accepted
+
+-- a number that was computed of a list of cases: a refusal where it is not 0, and none where it is
+module _ {A : Type 0} (cs : List Case) (refused : ℕ → A) (accepted : A) where
+  pub some-number : {r : ℕ} → r ≡ firstOf cs (λ n. n) 0 → (r ≡ 0 → ⊥) → refused r ≡ firstOf cs refused accepted
+  some-number = number cs where
+    number : (cs : List Case) {r : ℕ} → r ≡ firstOf cs (λ n. n) 0 → (r ≡ 0 → ⊥) → refused r ≡ firstOf cs refused accepted
+    number [] e h = absurd (h e)
+    number (case true n ∷ cs) e h = ap refused e
+    number (case false n ∷ cs) e h = number cs e h
+
+pub none-of : (cs : List Case) → numbered cs ≡ true → {r : ℕ} → r ≡ firstOf cs (λ n. n) 0 → r ≡ 0 → None cs
+none-of [] p e z = none
+none-of (case true n ∷ cs) p e z =
+    let h : 0 < n = ltb-true 0 n (and-left (ltb 0 n) (numbered cs) p) in
+    absurd (omega arith)
+none-of (case false n ∷ cs) p e z = past refl (none-of cs (and-right (ltb 0 n) (numbered cs) p) e z)
+
+module _ {A : Type 0} (cs ds : List Case) (refused : ℕ → A) (accepted : A) where
+  pub some-append : {r : ℕ} → r ≡ firstOf cs (λ n. n) 0 → (r ≡ 0 → ⊥) → refused r ≡ firstOf (cs ++ ds) refused accepted
+  some-append is d = some-number cs refused (firstOf ds refused accepted) is d ∙ sym (first-append cs ds refused accepted)
+
+  pub none-append : None cs → firstOf ds refused accepted ≡ firstOf (cs ++ ds) refused accepted
+  none-append free = sym (first-append cs ds refused accepted ∙ taken cs refused (firstOf ds refused accepted) free)
+
+-- one more thing done to every answer
+pub first-map : {A B : Type 0} (g : A → B) (cs : List Case) (refused : ℕ → A) (accepted : A)
+    → g (firstOf cs refused accepted) ≡ firstOf cs (λ n. g (refused n)) (g accepted)
+first-map g [] refused accepted = refl
+first-map g (case true n ∷ cs) refused accepted = refl
+first-map g (case false n ∷ cs) refused accepted = first-map g cs refused accepted

@@ -34,14 +34,8 @@ malformed-bytes (write r d) e = absurd (let z : _≡_ {A = ℕ} 0 1 = cc in omeg
 malformed-bytes (wait n) e = refl
 malformed-bytes malformed e = refl
 
--- a write whose data stand from index `at` + 2 of a file on lies in the file, and its bytes hold them
+-- the bytes of a write hold the data that stand from index `at` + 2 of the file on
 module _ (panel : ℕ) (file : List ℕ) (at register : ℕ) (e : kindOf (stepOf panel (drop at file)) ≡ Write register) where
-  pub write-fits : at ≤ length file → at + 2 + dataLength register ≤ length file
-  write-fits h =
-      let fits : sizeOf (write register (take (dataLength register) (drop 2 (drop at file)))) ≤ length (drop at file) =
-      rw (step-write panel register (drop at file) e) at (size-fits panel (drop at file)) in
-      omega (arith, fits, length-drop at file)
-
   pub write-sent : (n : ℕ) → n ≡ dataLength register → {out : List ℕ} {r : ℕ} {o : List ℕ}
       → (r ≡ 3 + length (take n (drop (at + 2) file))) × (o ≡ overlay (registerWrite register (take n (drop (at + 2) file))) out)
       → Sent (stepBytes (stepOf panel (drop at file))) out r o

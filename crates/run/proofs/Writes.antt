@@ -11,12 +11,8 @@ use lib.Seq.{getD-drop}
 use Rattle.lists.proofs.Rules.{and-right, holds}
 use Rattle.settings.specs.Settings.{Step, write, wait, malformed, isStep, allSteps, startSteps, stopSteps, settingsRules, settingsGood}
 use Rattle.settings.specs.Steps.{fromWrite}
+use Rattle.settings.proofs.Steps.{all-from}
 use Rattle.run.specs.Conditions.{isWrite, afterWrite}
-
-all-from : (k : ℕ) (steps : List Step) → allSteps steps ≡ true → allSteps (drop k steps) ≡ true
-all-from zero steps e = e
-all-from (suc k) [] e = e
-all-from (suc k) (step ∷ steps) e = all-from k steps (and-right (isStep step) (allSteps steps) e)
 
 from-le : (steps : List Step) → length (fromWrite steps) ≤ length steps
 from-le [] = omega arith

@@ -2,7 +2,7 @@
 -- Assumes nothing.
 use mathlib.Core.Path.{_≡_, refl, sym, ap, _∙_}
 use mathlib.Core.Bool.{Bool, true, false, cond, _&&_}
-use mathlib.Core.List.{List, _∷_}
+use mathlib.Core.List.{List, [], _∷_}
 use Prim.Native.Nat.{ℕ, zero, suc, _+_, _-_, _*_, _≤_, _<_}
 use native.Mathlib.Nat.{sub-zero, suc-sub-suc}
 use native.Mathlib.Numerals.{sub-one}
@@ -94,6 +94,14 @@ step-wait panel ms s =
     (λ m h low high k. let q : m ≡ ms = cc in (rw q, omega arith, omega arith))
     (λ k. absurd (let z : _≡_ {A = ℕ} 0 1 = cc in omega arith))
 
+-- a write at an index of a file lies in the file
+pub write-fits : (panel : ℕ) (file : List ℕ) (at register : ℕ) → kindOf (stepOf panel (drop at file)) ≡ Write register
+    → at ≤ length file → at + 2 + dataLength register ≤ length file
+write-fits panel file at register e h =
+    let fits : sizeOf (write register (take (dataLength register) (drop 2 (drop at file)))) ≤ length (drop at file) =
+    rw (step-write panel register (drop at file) e) at (size-fits panel (drop at file)) in
+    omega (arith, fits, length-drop at file)
+
 size-none : (step : Step) → sizeOf step ≡ 0 → isStep step ≡ false
 size-none (write r d) e = absurd (let z : 2 + dataLength r ≡ 0 = e in omega arith)
 size-none (wait ms) e = absurd (let z : _≡_ {A = ℕ} 3 0 = e in omega arith)
@@ -168,3 +176,9 @@ module _ {panel : ℕ} {file : List ℕ} {at n : ℕ} {kind : Kind} {z : ℕ} (t
   pub first-writes : (register : ℕ) → isWriteTo register (stepOf panel (drop at file)) ≡ true
       → writesTo register (stepsOf panel n (drop at file)) ≡ true
   first-writes register h = rw (next-steps, h)
+
+-- where all are steps, so are those behind the first k
+pub all-from : (k : ℕ) (steps : List Step) → allSteps steps ≡ true → allSteps (drop k steps) ≡ true
+all-from zero steps e = e
+all-from (suc k) [] e = e
+all-from (suc k) (step ∷ steps) e = all-from k steps (and-right (isStep step) (allSteps steps) e)

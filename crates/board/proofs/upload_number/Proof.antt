@@ -4,7 +4,8 @@ use mathlib.Core.Path.{sym, ap, _∙_}
 use mathlib.Core.Bool.{not}
 use denote.Ref.{now}
 use Rattle.lists.proofs.Rules.{here, past, none}
-use Rattle.board.specs.Facts.{stateOf, uploadOwn}
+use Rattle.board.specs.Calls.{uploadOwn}
+use Rattle.board.specs.Facts.{stateOf}
 use Rattle.board.proofs.Guard.{number-store, number-more, number-none}
 use borrow.Author.Needs.{needs}
 use Rattle.board.proofs.upload_number.Statement.{statement}

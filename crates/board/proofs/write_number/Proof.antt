@@ -4,11 +4,12 @@ use mathlib.Core.Path.{refl, sym, ap, _∙_}
 use denote.Ref.{now}
 use borrow.Author.Tests.{lt-ltb, le-ltb}
 use lib.Dec.{ltb}
-use Rattle.lists.proofs.Rules.{here, past, none}
+use Rattle.lists.proofs.Rules.{here, past, none, none-of}
 use Rattle.board.specs.State.{storeCases}
-use Rattle.board.specs.Facts.{stateOf, writeOwn}
+use Rattle.board.specs.Calls.{writeOwn}
+use Rattle.board.specs.Facts.{stateOf}
 use mathlib.Core.List.{[]}
-use Rattle.board.proofs.Guard.{none-of, number-store, number-more, number-none, call-length, call-file}
+use Rattle.board.proofs.Guard.{number-store, number-more, number-none, call-length, call-file}
 use borrow.Author.Needs.{needs}
 use Rattle.board.proofs.write_number.Statement.{statement}
 use Rattle.board.proofs.write_number.Tie as tie

@@ -6,10 +6,10 @@ use native.Mathlib.Omega.{arith}
 use lib.ListN.{drop}
 use Rattle.panel.specs.Registers.{dataLength}
 use Rattle.settings.specs.Settings.{stepOf}
-use Rattle.settings.proofs.Steps.{step-wait}
 use Rattle.listing.specs.Listing.{stepLine}
 use Rattle.listing.proofs.Appended.{appended-none, appended-as}
-use Rattle.listing.proofs.Steps.{write-fits, write-line, malformed-line}
+use Rattle.settings.proofs.Steps.{step-wait, write-fits}
+use Rattle.listing.proofs.Steps.{write-line, malformed-line}
 use borrow.Author.Needs.{needs}
 use Rattle.listing.proofs.put_step.Statement.{statement}
 use Rattle.listing.proofs.put_step.Tie as tie

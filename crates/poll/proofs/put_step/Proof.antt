@@ -5,7 +5,8 @@ use native.Mathlib.Omega.{arith}
 use lib.ListN.{drop}
 use Rattle.panel.specs.Registers.{dataLength}
 use Rattle.settings.specs.Settings.{stepOf}
-use Rattle.poll.proofs.Sent.{sent-none, wait-bytes, malformed-bytes, write-fits, write-sent}
+use Rattle.settings.proofs.Steps.{write-fits}
+use Rattle.poll.proofs.Sent.{sent-none, wait-bytes, malformed-bytes, write-sent}
 use borrow.Author.Needs.{needs}
 use Rattle.poll.proofs.put_step.Statement.{statement}
 use Rattle.poll.proofs.put_step.Tie as tie

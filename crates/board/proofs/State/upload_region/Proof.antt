@@ -2,7 +2,7 @@
 -- Assumes nothing.
 use denote.Ref.{now}
 use lib.ListN.{length}
-use Rattle.board.specs.Facts.{uploadOwn}
+use Rattle.board.specs.Calls.{uploadOwn}
 use Rattle.board.proofs.Guard.{call-within, call-length}
 use Rattle.board.proofs.Uploading.{upload-free, upload-slot, region-upload-refused, region-uploaded}
 use borrow.Author.Needs.{needs}

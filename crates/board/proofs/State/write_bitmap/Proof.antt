@@ -2,7 +2,7 @@
 -- Assumes nothing.
 use denote.Ref.{now}
 use lib.ListN.{length}
-use Rattle.board.specs.Facts.{writeOwn}
+use Rattle.board.specs.Calls.{writeOwn}
 use Rattle.board.proofs.Guard.{call-within, call-length}
 use Rattle.board.proofs.Writing.{write-refused, write-free, write-slot, write-room, write-accepted}
 use borrow.Author.Needs.{needs}
