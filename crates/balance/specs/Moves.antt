@@ -5,7 +5,7 @@ use mathlib.Core.Bool.{cond}
 use mathlib.Core.List.{List, [], _∷_}
 use Prim.Native.Nat.{ℕ, _+_, _*_, _<_}
 use lib.Dec.{eqb, ltb}
-use lib.IntN.{ℤ, pos}
+use lib.IntN.{pos}
 use Rattle.panel.specs.Codes.{codeOf}
 use Rattle.wire.specs.Reading.{pushOf, pushed}
 use Rattle.balance.specs.Sums.{pictureOfStage}

@@ -7,7 +7,7 @@ use mathlib.Core.List.{List, [], _∷_, _++_, map}
 use lib.Dec.{eqb, ltb}
 use lib.ListN.{length, getD}
 use Rattle.lists.specs.Lists.{tabulate}
-use Rattle.lists.specs.Rules.{every, Case, case, firstOf}
+use Rattle.lists.specs.Rules.{every, case, firstOf}
 use Rattle.panel.specs.Panels.{isPanel, rowsOf, rowBytesOf, strideOf}
 use Rattle.bitmap.specs.Header.{headerLength, fileLength, headerFields, fieldGood, header}
 

@@ -3,27 +3,26 @@
 use mathlib.Core.Path.{_≡_, refl, sym, ap, _∙_}
 use mathlib.Core.Bool.{true}
 use mathlib.Core.List.{List}
-use Prim.Native.Nat.{ℕ, suc, _+_, _*_, _≤_}
+use Prim.Native.Nat.{ℕ, suc, _*_, _≤_}
 use native.Mathlib.Numerals.{add-one}
 use native.Mathlib.Omega.{arith}
-use lib.ListN.{length, getD}
+use lib.ListN.{length}
 use Rattle.lists.specs.Rules.{firstOf}
 use Rattle.lists.proofs.Rules.{None, taken, holds, some-number, none-of}
 use Rattle.lists.proofs.Parts.{more-rows}
 use Rattle.run.specs.Conditions.{runValid}
 use Rattle.run.specs.declared.Tick.{Tick}
 use Rattle.run.specs.declared.Run.{Run}
-use Rattle.run.proofs.Valid.{Valid, valid}
-use Rattle.poll.specs.HandOut.{Outcome, outcome, rowBytesIn, rowsIn}
+use Rattle.run.proofs.Valid.{valid}
+use Rattle.poll.specs.HandOut.{outcome, rowBytesIn, rowsIn}
 use Rattle.poll.specs.Facts.{Room}
 use Rattle.poll.specs.declared.Answer.{Answer}
 use Rattle.poll.specs.declared.Answer.the-variants.{Refused}
 use Rattle.poll.specs.declared.Phase.{Phase}
 use Rattle.poll.specs.declared.Phase.the-variants.{Running}
 use Rattle.board.specs.State.{fileOf, withPhase, phaseValid, stateRules, stateValid, storeBytes, storeCases}
-use Rattle.board.specs.Calls.{Polling, polling, inState, pollPhase, polled}
+use Rattle.board.specs.Calls.{polling, inState, pollPhase, polled}
 use Rattle.board.specs.declared.State.{State}
-use Rattle.board.proofs.Guard.{store-valid}
 
 module _ (state : State) (tick : Tick) (memory out : List ℕ) {r : ℕ} (is : r ≡ firstOf (storeCases state (length memory)) (λ n. n) 0) where
   pub poll-refused : (r ≡ 0 → ⊥) → polling (Refused r) state memory out ≡ polled state tick memory out

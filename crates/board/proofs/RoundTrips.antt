@@ -3,7 +3,7 @@
 -- Assumes nothing.
 use mathlib.Core.Path.{_≡_, refl, ap, _∙_}
 use mathlib.Core.Bool.{false, not}
-use mathlib.Core.List.{List, [], _∷_, _++_}
+use mathlib.Core.List.{List, _++_}
 use Prim.Native.Nat.{ℕ, _+_, _-_, _*_, _/_, _%_, _≤_, _<_}
 use native.Mathlib.Decide.{decLt}
 use native.Mathlib.Omega.{arith}
@@ -23,7 +23,7 @@ use Rattle.bitmap.specs.Header.{headerLength, fileLength}
 use Rattle.bitmap.specs.Bitmap.{bitmapGood, readPicture, writtenFile, normalForm}
 use Rattle.bitmap.proofs.RoundTrip.{length-file, length-read, read-written, write-read, read-normal, good-written}
 use Rattle.poll.specs.HandOut.{rowBytesIn, rowsIn}
-use Rattle.board.specs.State.{fileOf, storeBytes, storeCases}
+use Rattle.board.specs.State.{fileOf, storeBytes}
 use Rattle.board.specs.Calls.{isRunsSlot, takesPictures, strideIn, reply, uploadCases, bitmapCases, bitmapUpload, writeCases, bitmapWrite}
 use Rattle.board.specs.declared.State.{State}
 use Rattle.board.specs.declared.Reply.{Reply}

@@ -3,13 +3,13 @@
 use mathlib.Core.Path.{_≡_, refl, sym, ap, _∙_}
 use mathlib.Core.Bool.{true, false≢true}
 use mathlib.Core.List.{List, [], _∷_, _++_, append-assoc}
-use Prim.Native.Nat.{ℕ, zero, suc, _+_, _-_, _≤_, _<_}
+use Prim.Native.Nat.{ℕ, suc, _+_, _-_, _≤_, _<_}
 use native.Mathlib.Decide.{decLt}
 use native.Mathlib.Nat.{sub-zero}
 use native.Mathlib.Omega.{arith}
 use lib.ListN.{length, take, drop, length-append, take-append-drop}
 use lib.Seq.{drop-at}
-use Rattle.settings.specs.Settings.{Step, write, wait, malformed, isStep, allSteps, stopSteps}
+use Rattle.settings.specs.Settings.{Step, write, wait, malformed, allSteps, stopSteps}
 use Rattle.settings.specs.Steps.{fromWrite}
 use Rattle.run.specs.Due.{runFrames}
 use Rattle.run.specs.Place.{nextPosition}

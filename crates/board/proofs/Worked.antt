@@ -2,10 +2,10 @@
 -- definitions that the contracts cite.
 -- Assumes nothing.
 use mathlib.Core.Path.{_≡_, refl}
-use mathlib.Core.List.{List, [], _∷_, _++_, map}
+use mathlib.Core.List.{List, [], _∷_, map}
 use Prim.Native.Nat.{ℕ, _+_}
 use lib.IntN.{ℤ, pos, negsuc}
-use lib.ListN.{take, drop, replicate, getD}
+use lib.ListN.{take, drop, replicate}
 use Rattle.panel.specs.Registers.{dataLength, channelData, gateSourceLevel}
 use Rattle.panel.specs.Codes.{codeBy}
 use Rattle.panel.specs.Dots.{rowDot, dot}

@@ -7,14 +7,14 @@
 use Prim.Native.Nat.{ℕ, _*_, _<_}
 use mathlib.Core.Path.{_≡_}
 use mathlib.Core.List.{List}
-use lib.ListN.{length, replicate}
+use lib.ListN.{replicate}
 use Rattle.panel.specs.Dots.{dot}
 use Rattle.picture.specs.Slots.{slotPicture}
 use Rattle.balance.specs.Sums.{sumOf, Within, restSum}
 use Rattle.run.specs.Due.{runFrames}
 use Rattle.poll.specs.HandOut.{rowBytesIn, rowsIn}
 use Rattle.board.specs.Calls.{opening}
-use Rattle.board.specs.History.{Call, Event, eventsOf, memoryAfter, handedOut, Standing, atRest, Seen, seenAfter}
+use Rattle.board.specs.History.{Call, Event, eventsOf, memoryAfter, handedOut, atRest, Seen, seenAfter}
 
 -- what is seen right after an opening: no run, and all dots white
 abbrev pub seenAtOpening : (b h : ℕ) → Seen

@@ -17,7 +17,6 @@ use Rattle.bitmap.specs.Header.{fileLength}
 use Rattle.bitmap.specs.Bitmap.{bitmapGood, readPicture, writtenFile}
 use Rattle.run.specs.Runs.{begun}
 use Rattle.run.specs.declared.Tick.{Tick}
-use Rattle.run.specs.declared.Run.{Run}
 use Rattle.poll.specs.HandOut.{Outcome, outcome, rowBytesIn, rowsIn}
 use Rattle.poll.specs.Poll.{pollRun}
 use Rattle.poll.specs.declared.Answer.{Answer}
@@ -27,7 +26,6 @@ use Rattle.poll.specs.declared.Phase.the-variants.{Idle, Abandoned, Running}
 use Rattle.board.specs.State.{fileOf, withPhase, storeBytes, storeCases, emptyState, openedState}
 use Rattle.board.specs.declared.State.{State}
 use Rattle.board.specs.declared.Reply.{Reply}
-use Rattle.board.specs.declared.Polled.{Polled}
 
 abbrev pub reply : (number : ℕ) → State → Reply
 reply number state = record { number = number; state = state }

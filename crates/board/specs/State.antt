@@ -1,7 +1,7 @@
 -- The state of a store and the conditions that it keeps; docs/STATE.md says them in words. Their breach earns 13.
 -- Assumes nothing.
 use Prim.Native.Nat.{ℕ, _+_, _*_}
-use mathlib.Core.Bool.{Bool, true, false, not}
+use mathlib.Core.Bool.{Bool, true, not}
 use mathlib.Core.List.{List, [], _∷_}
 use lib.Dec.{eqb, leb}
 use lib.ListN.{length, take, replicate}
@@ -9,7 +9,6 @@ use Rattle.lists.specs.Lists.{overlay}
 use Rattle.lists.specs.Rules.{every, Case, case}
 use Rattle.settings.specs.Settings.{longestFile, settingsGood}
 use Rattle.run.specs.Conditions.{runValid}
-use Rattle.run.specs.declared.Run.{Run}
 use Rattle.poll.specs.HandOut.{rowBytesIn, rowsIn}
 use Rattle.poll.specs.declared.Phase.{Phase}
 use Rattle.poll.specs.declared.Phase.the-variants.{Idle, Abandoned, Running}

@@ -1,12 +1,11 @@
 -- Text that is put behind other text is text put there as one.
 -- Assumes nothing.
-use mathlib.Core.Path.{_≡_, refl, sym, ap, _∙_}
+use mathlib.Core.Path.{_≡_, sym, ap, _∙_}
 use mathlib.Core.List.{List, [], _++_}
 use Prim.Native.Nat.{ℕ, _+_, _≤_}
 use native.Mathlib.Nat.{add-zero}
 use native.Mathlib.Omega.{arith}
 use lib.ListN.{length, length-append}
-use Rattle.lists.specs.Lists.{overlayAt}
 use Rattle.lists.proofs.Lists.{overlayAt-none, overlayAt-next, length-overlayAt}
 use Rattle.listing.specs.Appended.{Appended}
 

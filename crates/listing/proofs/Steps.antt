@@ -2,18 +2,17 @@
 -- Assumes nothing.
 use mathlib.Core.Path.{_≡_, refl, sym, ap, _∙_}
 use mathlib.Core.List.{List, [], _∷_, _++_, append-assoc, append-nil}
-use Prim.Native.Nat.{ℕ, zero, suc, _+_, _*_, _≤_, _<_}
+use Prim.Native.Nat.{ℕ, zero, suc, _+_, _*_, _≤_}
 use native.Mathlib.Numerals.{add-one}
 use native.Mathlib.Omega.{arith}
-use lib.ListN.{length, take, drop, length-append, length-drop, length-take}
+use lib.ListN.{length, take, drop, length-append, length-take}
 use lib.Seq.{drop-drop}
 use Rattle.panel.specs.Registers.{dataLength}
 use Rattle.panel.proofs.Registers.{data-length-le}
 use Rattle.settings.specs.Settings.{Step, write, wait, malformed, stepOf, sizeOf, stepsOf, restOf}
 use Rattle.settings.specs.Facts.{kindOf}
-use Rattle.settings.specs.declared.Kind.{Kind}
-use Rattle.settings.specs.declared.Kind.the-variants.{Write, Wait, Malformed}
-use Rattle.settings.proofs.Steps.{step-cases, step-write, size-fits, Turn, sized}
+use Rattle.settings.specs.declared.Kind.the-variants.{Write, Malformed}
+use Rattle.settings.proofs.Steps.{step-cases, step-write}
 use Rattle.listing.specs.Text.{ascii, newline, hexByte, spacedBytes, decimal}
 use Rattle.listing.specs.Listing.{stepLine, stepLines}
 use Rattle.listing.specs.Appended.{Appended}

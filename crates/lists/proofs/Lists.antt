@@ -8,7 +8,7 @@ use native.Mathlib.Nat.{add-assoc, eq-or-lt-of-le, not-suc-le-zero, le-of-suc-le
 use native.Mathlib.Numerals.{add-one}
 use native.Mathlib.Omega.{arith}
 use lib.ListN.{length, getD, set, take, drop, replicate, length-append, length-drop, take-append-drop, drop-of-length-le, length-replicate, replicate-append-replicate, List·getD-append}
-use lib.Seq.{drop-cons, set-at, append-snoc, getD-at, length-take-le, take-at, drop-at, drop-drop, ext-getD, take-suc, take-all}
+use lib.Seq.{drop-cons, set-at, append-snoc, getD-at, length-take-le, take-at, drop-at, drop-drop, ext-getD, take-suc}
 use Rattle.lists.specs.Lists.{tabulate, overlay, overlayAt}
 
 -- ---- tabulate

@@ -2,17 +2,17 @@
 -- Assumes nothing.
 use mathlib.Core.Path.{_≡_, refl, sym, ap, _∙_}
 use mathlib.Core.List.{List, []}
-use Prim.Native.Nat.{ℕ, _+_, _≤_}
+use Prim.Native.Nat.{ℕ, _+_}
 use native.Mathlib.Omega.{arith}
-use lib.ListN.{length, take, drop, length-drop}
+use lib.ListN.{length, take, drop}
 use lib.Seq.{drop-drop}
 use Rattle.lists.specs.Lists.{overlay}
 use Rattle.panel.specs.Registers.{dataLength}
 use Rattle.wire.specs.Registers.{registerWrite}
-use Rattle.settings.specs.Settings.{Step, write, wait, malformed, stepOf, sizeOf}
+use Rattle.settings.specs.Settings.{Step, write, wait, malformed, stepOf}
 use Rattle.settings.specs.Facts.{kindOf}
 use Rattle.settings.specs.declared.Kind.the-variants.{Write, Wait, Malformed}
-use Rattle.settings.proofs.Steps.{step-write, size-fits}
+use Rattle.settings.proofs.Steps.{step-write}
 use Rattle.poll.specs.HandOut.{stepBytes}
 use Rattle.poll.specs.Facts.{Sent}
 

@@ -8,8 +8,8 @@ use native.Mathlib.Omega.{arith}
 use borrow.Author.Tests.{ne-eqb}
 use lib.ListN.{length, getD, drop, length-drop}
 use lib.Seq.{getD-drop}
-use Rattle.lists.proofs.Rules.{and-right, holds}
-use Rattle.settings.specs.Settings.{Step, write, wait, malformed, isStep, allSteps, startSteps, stopSteps, settingsRules, settingsGood}
+use Rattle.lists.proofs.Rules.{holds}
+use Rattle.settings.specs.Settings.{Step, write, wait, malformed, allSteps, startSteps, stopSteps, settingsRules, settingsGood}
 use Rattle.settings.specs.Steps.{fromWrite}
 use Rattle.settings.proofs.Steps.{all-from}
 use Rattle.run.specs.Conditions.{isWrite, afterWrite}

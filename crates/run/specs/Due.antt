@@ -6,7 +6,7 @@ use mathlib.Core.Bool.{cond}
 use mathlib.Core.List.{List}
 use lib.Dec.{eqb}
 use lib.ListN.{drop}
-use Rattle.settings.specs.Settings.{Step, startSteps, stopSteps, panelOf}
+use Rattle.settings.specs.Settings.{startSteps, stopSteps, panelOf}
 use Rattle.settings.specs.Steps.{waitsBefore}
 use Rattle.panel.specs.Panels.{framesOf}
 use Rattle.run.specs.Place.{frameNumber}

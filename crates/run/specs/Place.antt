@@ -4,7 +4,7 @@ use Prim.Native.Nat.{ℕ, _+_, _-_, _*_}
 use mathlib.Core.Bool.{cond}
 use lib.Dec.{ltb}
 use Rattle.run.specs.declared.Position.{Position}
-use Rattle.run.specs.declared.Position.the-variants.{Start, Line, Stop}
+use Rattle.run.specs.declared.Position.the-variants.{Line, Stop}
 
 -- frame i of 4N, counted from 0 over the whole run, by its stage (1 to 4) and its frame of that stage (from 0)
 abbrev pub frameNumber : (N stage frame : ℕ) → ℕ

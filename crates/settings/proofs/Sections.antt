@@ -1,18 +1,18 @@
 -- The rules of a file, section by section.
 -- Assumes nothing.
-use mathlib.Core.Path.{_≡_, refl, sym, ap, _∙_}
-use mathlib.Core.Bool.{Bool, true, false, _&&_, and-false, and-true, and-assoc, false≢true}
-use mathlib.Core.List.{List, [], _∷_}
-use Prim.Native.Nat.{ℕ, zero, suc, _+_, _-_, _≤_, _<_}
+use mathlib.Core.Path.{_≡_, sym, ap, _∙_}
+use mathlib.Core.Bool.{Bool, true, false, _&&_, and-false, and-true, false≢true}
+use mathlib.Core.List.{List}
+use Prim.Native.Nat.{ℕ, _+_, _-_, _≤_, _<_}
 use native.Mathlib.Nat.{add-zero}
 use native.Mathlib.Decide.{ℕ-discrete}
 use native.Mathlib.Omega.{arith}
 use borrow.Author.Tests.{leb-true, ltb-true, lt-ltb, le-ltb, lt-leb, le-leb, eq-eqb, ne-eqb}
 use lib.Dec.{eqb, leb, ltb}
-use lib.ListN.{length, getD, take, drop, length-drop}
+use lib.ListN.{length, getD, drop, length-drop}
 use lib.Seq.{drop-drop, getD-drop}
 use Rattle.lists.specs.Rules.{every}
-use Rattle.lists.proofs.Rules.{broken, holds, Kept, none, keep, all-kept, every-parts, others}
+use Rattle.lists.proofs.Rules.{broken, holds, none, keep, all-kept, every-parts, others}
 use Rattle.settings.specs.Settings.{stepsOf, restOf, allSteps, writesTo, panelOf, startCount, startSteps, stopSection, stopCount, stopSteps, endOf, settingsRules, settingsGood}
 use Rattle.settings.specs.Facts.{headRules, startRules, stopRules, Readable, StopAt, StepsPassed, StartPassed, LaidOut}
 use Rattle.settings.specs.declared.StepsEnd.{StepsEnd}

@@ -1,6 +1,6 @@
 -- A good file is read and written again.
 -- Assumes nothing.
-use mathlib.Core.Path.{_≡_, sym, _∙_}
+use mathlib.Core.Path.{sym, _∙_}
 use native.Mathlib.Omega.{arith}
 use borrow.Author.Tests.{not-true, not-false}
 use Rattle.bitmap_normal.proofs.Normal.{good-length, refused, rewritten}

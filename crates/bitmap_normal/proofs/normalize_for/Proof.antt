@@ -1,6 +1,6 @@
 -- The panel's sizes, and rooms that are large enough for each.
 -- Assumes nothing.
-use mathlib.Core.Path.{_≡_, sym, _∙_}
+use mathlib.Core.Path.{_≡_, sym}
 use mathlib.Core.List.{List}
 use Prim.Native.Nat.{ℕ, _*_, _≤_}
 use native.Mathlib.Omega.{arith}
@@ -9,7 +9,6 @@ use lib.Seq.{length-take-le}
 use mir.Facts.{fits-below}
 use Rattle.panel.specs.Panels.{rowsOf, rowBytesOf, strideOf}
 use Rattle.panel.proofs.Panels.{size-of}
-use Rattle.bitmap.specs.Header.{fileLength}
 use Rattle.bitmap_normal.specs.Normal.{normalized}
 use Rattle.bitmap_normal.proofs.Normal.{normalized-le, fits}
 use borrow.Author.Needs.{needs}

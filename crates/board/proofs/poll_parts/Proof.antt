@@ -1,9 +1,6 @@
 -- A refusal of the store, 9 where no run is under way, or a poll of the run.
 -- Assumes nothing.
-use mathlib.Core.Path.{_≡_, sym, ap, _∙_}
-use native.Mathlib.Omega.{arith}
-use lib.ListN.{take}
-use lib.Seq.{length-take-le}
+use mathlib.Core.Path.{sym, ap, _∙_}
 use Rattle.poll.specs.declared.Phase.the-variants.{Idle, Abandoned, Running}
 use Rattle.poll.specs.declared.Answer.the-variants.{Refused}
 use Rattle.board.specs.State.{withPhase}

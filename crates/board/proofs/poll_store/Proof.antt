@@ -1,6 +1,6 @@
 -- The run is ready, and its slot lies in the memory.
 -- Assumes nothing.
-use mathlib.Core.Path.{_≡_, sym, _∙_}
+use mathlib.Core.Path.{_∙_}
 use native.Mathlib.Omega.{arith}
 use Rattle.run.proofs.Valid.{valid-ready}
 use Rattle.board.proofs.Polling.{room}

@@ -1,14 +1,9 @@
 -- The panel's line and the two sections; an accepted file's counts are at most 32.
 -- Assumes nothing.
-use mathlib.Core.Path.{_≡_, refl, sym, ap, _∙_}
-use mathlib.Core.List.{List, _++_}
-use Prim.Native.Nat.{ℕ, _≤_, _<_}
+use Prim.Native.Nat.{_≤_, _<_}
 use native.Mathlib.Omega.{arith}
-use lib.ListN.{length, getD, drop}
-use Rattle.settings.specs.Settings.{panelOf, stepsOf}
+use lib.ListN.{getD, drop}
 use Rattle.listing.specs.Text.{ascii}
-use Rattle.listing.specs.Listing.{panelLine, sectionLines}
-use Rattle.listing.specs.Appended.{Appended}
 use Rattle.listing.proofs.Appended.{appended-next, appended-as}
 use Rattle.listing.proofs.File.{panel-short, section-short, counts, file-lines}
 use borrow.Author.Needs.{needs}

@@ -1,6 +1,6 @@
 -- A file that keeps the rules is listed; any other gives one line.
 -- Assumes nothing.
-use mathlib.Core.Path.{_≡_, refl, sym, _∙_}
+use mathlib.Core.Path.{sym, _∙_}
 use native.Mathlib.Omega.{arith}
 use borrow.Author.Tests.{not-true, not-false}
 use Rattle.listing.proofs.Appended.{appended-as}

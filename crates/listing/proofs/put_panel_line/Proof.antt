@@ -1,6 +1,6 @@
 -- A branch for each panel.
 -- Assumes nothing.
-use mathlib.Core.Path.{_≡_, refl, sym, ap}
+use mathlib.Core.Path.{_≡_, sym, ap}
 use native.Mathlib.Omega.{arith}
 use Rattle.listing.specs.Listing.{panelLine}
 use Rattle.listing.proofs.Appended.{appended-as}

@@ -1,13 +1,11 @@
 -- Each turn puts one byte more.
 -- Assumes nothing.
-use mathlib.Core.Path.{_≡_, refl, sym, ap, _∙_}
-use mathlib.Core.List.{[], _∷_, _++_}
+use mathlib.Core.Path.{_≡_, refl, ap}
 use Prim.Native.Nat.{_+_, _*_, _-_, _≤_}
-use native.Mathlib.Numerals.{add-one}
 use native.Mathlib.Omega.{arith}
 use borrow.Author.Needs.{needs}
-use lib.ListN.{length, take, getD}
-use lib.Seq.{take-suc, take-all, length-take-le}
+use lib.ListN.{length, take}
+use lib.Seq.{take-all}
 use Rattle.listing.specs.Text.{spacedBytes}
 use Rattle.listing.specs.Appended.{Appended}
 use Rattle.listing.proofs.Appended.{appended-none, appended-as, length-appended}

@@ -1,11 +1,11 @@
 -- Each turn puts one step's line more.
 -- Assumes nothing.
-use mathlib.Core.Path.{_≡_, refl, sym, ap, _∙_}
+use mathlib.Core.Path.{_≡_, refl, ap}
 use Prim.Native.Nat.{_+_, _*_, _-_, _≤_}
 use native.Mathlib.Omega.{arith}
 use borrow.Author.Needs.{needs}
 use lib.ListN.{length, drop}
-use Rattle.settings.specs.Settings.{stepOf, stepsOf, restOf}
+use Rattle.settings.specs.Settings.{stepsOf, restOf}
 use Rattle.settings.proofs.Steps.{Turn, sized, next-fits}
 use Rattle.listing.specs.Listing.{stepLines}
 use Rattle.listing.specs.Appended.{Appended}
