@@ -4,5 +4,3 @@ pub mod Excess
 pub mod Places
 -- The sums over any list of moves.
 pub mod Moves
--- Document 01's table of net pushes.
-pub mod Table

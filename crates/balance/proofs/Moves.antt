@@ -8,7 +8,7 @@ use lib.IntN.{ℤ, pos, negℤ, _+ℤ_, _*ℤ_, +ℤ-idl, +ℤ-idr, +ℤ-assoc}
 use Rattle.wire.specs.Reading.{pushed}
 use Rattle.balance.specs.Sums.{sumOf, Within, restSum}
 use Rattle.balance.specs.Moves.{Dots, Place, line, allOut, View, resting, updating, abandoned, Move, nothing, start, draw, done, abandon, Moves, none, more}
-use Rattle.balance.specs.Excess.{restExcess, blackExcess, framesHad, excessAt, excessOf, netPush}
+use Rattle.balance.specs.Excess.{restExcess, excessAt, excessOf, netPush}
 use Rattle.balance.proofs.Excess.{minus-within, rest-sum, rest-le, rest-net}
 use Rattle.balance.proofs.Places.{InRun, at-line, at-le, at-first, first-excess, line-push, behind-line}
 
@@ -69,19 +69,6 @@ module _ (b h N x y : ℕ) (some : 0 < N) (fx : x < 8 * b) (fy : y < h) where
         → sumOf b h x y handed ≡ restSum N (shown x y)
     unfolding excessOf
     moves-rest {shown} ms white = moves-sum ms white ∙ rest-sum N (shown x y)
-
-    module _ {shown new : Dots} {stage frame row : ℕ} where
-      -- in a run the place of the next line tells it
-      pub moves-updating : Moves b h N (resting first) handed (updating shown new (line stage frame row)) → first x y ≡ 1
-          → sumOf b h x y handed ≡ negℤ (pos (blackExcess N stage (shown x y) (new x y) (framesHad frame row y)))
-      unfolding excessOf excessAt
-      moves-updating ms white = moves-sum ms white
-
-      -- after an abandon the place where the run was left does
-      pub moves-abandoned : Moves b h N (resting first) handed (abandoned shown new (line stage frame row)) → first x y ≡ 1
-          → sumOf b h x y handed ≡ negℤ (pos (blackExcess N stage (shown x y) (new x y) (framesHad frame row y)))
-      unfolding excessOf excessAt
-      moves-abandoned ms white = moves-sum ms white
 
   -- ---- from any rest
 

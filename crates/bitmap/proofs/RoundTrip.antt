@@ -17,6 +17,8 @@ use Rattle.lists.proofs.Lists.{length-tabulate, getD-tabulate, tabulate-cong, i
 use Rattle.lists.proofs.Rules.{none, keep, all-kept}
 use Rattle.panel.specs.Panels.{rowsOf, rowBytesOf, strideOf}
 use Rattle.panel.proofs.Panels.{Size, size-of}
+use Rattle.picture.proofs.Pictures.{Bytes, bytes-tabulate}
+use Rattle.picture.proofs.Slots.{Rows}
 use Rattle.bitmap.specs.Header.{headerLength, fileLength, header}
 use Rattle.bitmap.specs.Bitmap.{bitmapGood, checkBitmap, readPicture, fileRows, writtenFile, normalForm}
 use Rattle.bitmap.proofs.Numbers.{number-back}
@@ -43,6 +45,14 @@ module _ (b h s : ℕ) where
   unfolding readPicture
   length-read file = length-tabulate (h * b) _
 
+  pub rows-read : (file : List ℕ) → Bytes file → Rows b h (readPicture b h s file)
+  unfolding readPicture
+  rows-read file bytes = (
+    length-read file,
+    bytes-tabulate (h * b) (λ k. getD file (headerLength + ((h - 1 - k / b) * s + k % b)) 0)
+        (λ k. bytes (headerLength + ((h - 1 - k / b) * s + k % b))),
+  )
+
   -- what stands behind the header of a written file
   getD-file : (picture : List ℕ) (n : ℕ) → getD (writtenFile b h s picture) (headerLength + n) 0 ≡ getD (fileRows b h s picture) n 0
   unfolding writtenFile header
@@ -58,7 +68,7 @@ module _ (b h s : ℕ) (some : 0 < b) (within : b ≤ s) where
       getD-tabulate (h * s) (λ k. cond (ltb (k % s) b) (getD picture ((h - 1 - k / s) * b + k % s) 0) 0) (q * s + r) 0 (digits-lt hq hs)
       ∙ rw (digits-div q hs, digits-mod q hs, lt-ltb r b hr)
 
-  read-byte : (file : List ℕ) (y r : ℕ) → y < h → r < b
+  pub read-byte : (file : List ℕ) (y r : ℕ) → y < h → r < b
       → getD (readPicture b h s file) (y * b + r) 0 ≡ getD file (headerLength + ((h - 1 - y) * s + r)) 0
   unfolding readPicture
   read-byte file y r hy hr =

@@ -1,30 +1,27 @@
 -- Laws of the rows of a file, as they are written and read row by row.
 -- Assumes nothing.
-use mathlib.Core.Path.{_≡_, sym, ap, _∙_}
+use mathlib.Core.Path.{_≡_, refl, sym, ap, _∙_}
 use mathlib.Core.Bool.{cond}
 use mathlib.Core.List.{List, _++_}
 use Prim.Native.Nat.{ℕ, _+_, _-_, _*_, _/_, _%_, _≤_, _<_}
-use native.Mathlib.Nat.{zero-add, suc-mul, mod-lt, div-lt-iff-lt-mul}
+use native.Mathlib.Nat.{add-assoc, suc-mul}
 use native.Mathlib.Numerals.{add-one}
 use native.Mathlib.Omega.{arith}
 use native.Mathlib.Decide.{decLt}
 use borrow.Author.Tests.{lt-ltb, le-ltb}
 use lib.Arith.{digits-lt, digits-div, digits-mod}
 use lib.Dec.{ltb}
-use lib.ListN.{length, getD, take, drop, replicate, length-append, length-replicate, length-take, getD-replicate, List·getD-append, List·getD-eq-default}
-use lib.Seq.{ext-getD, getD-take, getD-drop, getD-append-add, length-take-le, take-add}
-use Rattle.lists.specs.Lists.{overlayAt}
-use Rattle.lists.proofs.Lists.{getD-tabulate, tabulate-cong}
-use Rattle.panel.specs.Dots.{dot}
-use Rattle.panel.proofs.Dots.{dot-lt}
-use Rattle.picture.specs.Pictures.{draw}
-use Rattle.picture.specs.Slots.{pictureRow, painted}
+use lib.ListN.{length, getD, take, drop, replicate, length-append, length-replicate, length-take, getD-replicate, List·getD-append}
+use lib.Seq.{ext-getD, getD-take, getD-drop, getD-append-add, length-take-le, take-add, take-all}
+use Rattle.lists.specs.Lists.{overlay, overlayAt}
+use Rattle.lists.proofs.Lists.{getD-tabulate, length-overlay, overlay-whole}
 use Rattle.lists.proofs.Parts.{more-rows, part-length, part-next}
-use Rattle.picture.proofs.Pictures.{Bytes, Dots, draw-rows}
-use Rattle.picture.proofs.Slots.{painted-row, rows-painted}
+use Rattle.picture.specs.Slots.{pictureOf, rawOf, pictureRow}
+use Rattle.picture.proofs.Pictures.{Bytes, bytes-take, bytes-drop, bytes-append}
+use Rattle.picture.proofs.Slots.{Rows, picture-raw}
 use Rattle.bitmap.specs.Header.{headerLength, fileLength}
 use Rattle.bitmap.specs.Bitmap.{readPicture, fileRows}
-use Rattle.bitmap.proofs.RoundTrip.{length-rows}
+use Rattle.bitmap.proofs.RoundTrip.{length-rows, length-read, rows-read, read-byte}
 
 -- ---- written
 
@@ -84,43 +81,59 @@ module _ (b h s : ℕ) (within : b ≤ s) (picture : List ℕ) (size : length pi
 
 -- ---- read
 
--- dot x of row y of the picture whose rows a file has, bottom row first
-abbrev pub dotOf : (h s : ℕ) (rows : List ℕ) (x y : ℕ) → ℕ
-dotOf h s rows x y = dot s rows x (h - 1 - y)
+-- a picture of which the first y rows are read already
+abbrev pub partRead : (b h s : ℕ) (file old : List ℕ) (y : ℕ) → List ℕ
+partRead b h s file old y = overlay (take (y * b) (readPicture b h s file)) old
 
--- a turn of the loop: one row more, below those that are painted already
-pub paint-next : (b h s : ℕ) → 0 < b → (rows raw : List ℕ) {d e : List ℕ} (y : ℕ)
-    → d ≡ painted b h raw 0 0 (8 * b) y (dotOf h s rows) → e ≡ painted b h d 0 y (8 * b) 1 (λ x _. dotOf h s rows x y)
-    → (length e ≡ h * b) × (e ≡ painted b h raw 0 0 (8 * b) (y + 1) (dotOf h s rows))
-paint-next b h s some rows raw {d} {e} y p q =
-    let new : ℕ → ℕ → ℕ = dotOf h s rows in
-    let dots : Dots new = λ u v. dot-lt s rows u (h - 1 - v) in
-    let f : e ≡ painted b h raw 0 0 (8 * b) (y + 1) new =
-    q
-    ∙ ap (λ (l : List ℕ). painted b h l 0 y (8 * b) 1 (λ x _. new x y)) p
-    ∙ rw zero-add at (painted-row b h some raw 0 0 (8 * b) y new dots) in
-    (ap length f ∙ rows-painted b h some raw 0 0 (8 * b) (y + 1) new dots .0, f)
+-- with all rows read it is the picture of the file
+pub read-all : (b h s : ℕ) (file old : List ℕ) → length old ≡ h * b → partRead b h s file old h ≡ readPicture b h s file
+read-all b h s file old size =
+    let picture : List ℕ = readPicture b h s file in
+    let l : length picture ≡ h * b = length-read b h s file in
+    rw (take-all (h * b) picture (omega arith)) (overlay-whole picture old (omega arith))
 
-part-bytes : (l : List ℕ) (n m : ℕ) → Bytes l → Bytes (take n (drop m l))
-part-bytes l n m bytes k =
-    elim (decLt k n) [
-      | yes h ↦ rw (getD-take n (drop m l) k 0 h, getD-drop m l k 0) (bytes (m + k))
-      | no h ↦ rw (List·getD-eq-default (take n (drop m l)) 0 {n = k} (omega (arith, length-take n (drop m l)))) (omega arith)
-    ]
+module _ (b h s : ℕ) (some : 0 < b) (within : b ≤ s) (file : List ℕ) (bytes : Bytes file) (old : List ℕ) (rows : Rows b h old) where
+  rows-part : (y : ℕ) → Rows b h (partRead b h s file old y)
+  rows-part y =
+      let picture : List ℕ = readPicture b h s file in
+      let front : List ℕ = take (y * b) picture in
+      let r : Rows b h picture = rows-read b h s file bytes in (
+        length-overlay front old (omega (arith, length-take (y * b) picture, r .0, rows .0)) ∙ rows .0,
+        bytes-append front (drop (length front) old) (bytes-take (y * b) picture (r .1)) (bytes-drop (length front) old (rows .1)),
+      )
 
--- the picture drawn from the rows behind the header is the one that the file holds
-pub drawn-rows : (b h s : ℕ) → 0 < b → b ≤ s → (file : List ℕ) → Bytes file → fileLength h s ≤ length file
-    → draw b h (dotOf h s (take (length file - headerLength) (drop headerLength file))) ≡ readPicture b h s file
-unfolding readPicture
-drawn-rows b h s some within file bytes room =
-    let n : ℕ = length file - headerLength in
-    let rows : List ℕ = take n (drop headerLength file) in
-    draw-rows b h s (λ y. h - 1 - y) rows (part-bytes file n headerLength bytes)
-    ∙ tabulate-cong (h * b) (λ k. getD rows ((h - 1 - k / b) * s + k % b) 0)
-    (λ k. getD file (headerLength + ((h - 1 - k / b) * s + k % b)) 0)
-    (λ k lk.
-    let q : k / b < h = div-lt-iff-lt-mul some .1 lk in
-    let r : k % b < b = mod-lt k some in
-    let at : ℕ = (h - 1 - k / b) * s + k % b in
-    let l : at < h * s = digits-lt {q = h - 1 - k / b} {m = h} {r = k % b} {c = s} (omega arith) (omega arith) in
-    getD-take n (drop headerLength file) at 0 (omega arith) ∙ getD-drop headerLength file at 0)
+  module _ (room : fileLength h s ≤ length file) (y : ℕ) (low : y < h) where
+    -- a row of the picture: a row of the file, counted from its other end
+    abbrev rowIn : List ℕ
+    rowIn = take b (drop (headerLength + (h - 1 - y) * s) file)
+
+    read-row : pictureRow b (readPicture b h s file) y ≡ rowIn
+    read-row =
+        let picture : List ℕ = readPicture b h s file in
+        let at : ℕ = headerLength + (h - 1 - y) * s in
+        let e : length (pictureRow b picture y) ≡ b =
+        part-length (y * b) b picture (omega (arith, length-read b h s file, more-rows y h b low)) in
+        let f : length rowIn ≡ b = part-length at b file (omega (arith, more-rows (h - 1 - y) h s (omega arith))) in
+        ext-getD 0 (pictureRow b picture y) rowIn (e ∙ sym f)
+        (λ i l.
+        let q : i < b = omega (arith, e) in
+        getD-take b (drop (y * b) picture) i 0 q
+        ∙ getD-drop (y * b) picture i 0
+        ∙ read-byte b h s some within file y i low q
+        ∙ sym (getD-take b (drop at file) i 0 q ∙ getD-drop at file i 0 ∙ rw add-assoc))
+
+    -- a turn of the loop: one row more, right behind those that are there already
+    pub read-next : {d e : List ℕ} → d ≡ rawOf b h (partRead b h s file old y)
+        → e ≡ rawOf b h (overlayAt (y * b) rowIn (pictureOf b h d)) → e ≡ rawOf b h (partRead b h s file old (y + 1))
+    read-next {d} {e} p q =
+        let picture : List ℕ = readPicture b h s file in
+        let front : List ℕ = take (y * b) picture in
+        let more : y * b + b ≤ h * b = more-rows y h b low in
+        let l : length front ≡ y * b = length-take-le (y * b) picture (omega (arith, length-read b h s file)) in
+        let f : (y + 1) * b ≡ y * b + b = rw add-one (suc-mul y b) in
+        let g : pictureOf b h d ≡ overlay front old =
+        ap (pictureOf b h) p ∙ picture-raw b h some (overlay front old) (rows-part y) in
+        q
+        ∙ ap (rawOf b h)
+        (rw (f, take-add (y * b) b picture, read-row)
+        (part-next 0 old front rowIn (y * b) g refl (omega arith) (omega (arith, rows .0))))

@@ -6,8 +6,7 @@ ghost use mathlib.Core.List.{[], _∷_, _++_, map};
 ghost use lib.ListN.{length, take, drop, replicate};
 ghost use Rattle.lists.specs.Lists.{overlay, overlayAt};
 ghost use Rattle.lists.specs.Rules.{every};
-ghost use Rattle.panel.specs.Dots.{dot};
-ghost use Rattle.picture.specs.Slots.{pictureOf, rawOf, pictureRow, painted};
+ghost use Rattle.picture.specs.Slots.{pictureOf, rawOf, pictureRow};
 ghost use Rattle.bitmap.specs.Numbers.{numberAt, numberBytes};
 ghost use Rattle.bitmap.specs.Header.{
   field,
@@ -252,26 +251,16 @@ pub fn write_bitmap(b: usize, h: usize, s: usize, raw: &[u8], out: &mut [u8]) ->
 
 // ---- the reader
 
-// Paints the rows of a file, bottom row first, on a slot.
-fn paint_rows(b: usize, h: usize, s: usize, rows: &[u8], raw: &mut [u8])
-    requires { ⌜ (0 < b) × (b ≤ 33) × (b ≤ s) × (s ≤ 36) × (h ≤ 176) × (length (now raw) ≡ h * b)
-        × (h * s ≤ length (now rows)) ⌝ }
-    ensures { λ _. ⌜ now (raw .exit)
-        ≡ painted b h (now (raw .entry)) 0 0 (8 * b) h (λ x y. dot s (now (rows .entry)) x (h - 1 - y)) ⌝ }
-{
-    let mut y: usize = 0;
-    while y < h {
-        let j = h - 1 - y;
-        picture::paint_row(b, h, raw, 0, y, 8 * b, s, rows, j);
-        y += 1;
-    }
-}
-
-// Makes a slot hold the picture of a bitmap file.
+// Makes a slot hold the picture of a bitmap file: its rows stand behind the header, bottom row first.
 pub fn read_bitmap(b: usize, h: usize, s: usize, file: &[u8], raw: &mut [u8])
     requires { ⌜ (0 < b) × (b ≤ 33) × (b ≤ s) × (s ≤ 36) × (h ≤ 176) × (length (now raw) ≡ h * b)
         × (fileLength h s ≤ length (now file)) ⌝ }
     ensures { λ _. ⌜ now (raw .exit) ≡ rawOf b h (readPicture b h s (now (file .entry))) ⌝ }
 {
-    paint_rows(b, h, s, &file[62..], raw);
+    let mut y: usize = 0;
+    while y < h {
+        let j = h - 1 - y;
+        picture::put_row(b, h, raw, y, file, 62 + j * s);
+        y += 1;
+    }
 }

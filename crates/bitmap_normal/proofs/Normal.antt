@@ -3,39 +3,26 @@
 use mathlib.Core.Path.{_≡_, ap}
 use mathlib.Core.Bool.{Bool, true, false, cond}
 use mathlib.Core.List.{List}
-use Prim.Native.Nat.{ℕ, _+_, _*_, _-_, _/_, _%_, _≤_, _<_}
+use Prim.Native.Nat.{ℕ, _*_, _≤_, _<_}
 use native.Mathlib.Omega.{arith}
-use native.Mathlib.Decide.{decLt}
 use borrow.Author.Tests.{eqb-true}
 use lib.Dec.{eqb}
-use lib.ListN.{length, getD, List·getD-eq-default}
-use Rattle.lists.specs.Lists.{overlay, tabulate}
-use Rattle.lists.proofs.Lists.{getD-tabulate, length-tabulate}
+use lib.ListN.{length}
+use Rattle.lists.specs.Lists.{overlay}
 use Rattle.lists.proofs.Rules.{and-left}
 use Rattle.panel.specs.Panels.{rowsOf, rowBytesOf, strideOf}
 use Rattle.panel.proofs.Panels.{each-panel}
 use Rattle.picture.specs.Slots.{pictureOf, rawOf}
 use Rattle.picture.proofs.Pictures.{Bytes}
 use Rattle.picture.proofs.Slots.{picture-raw}
-use Rattle.bitmap.specs.Header.{headerLength, fileLength}
+use Rattle.bitmap.specs.Header.{fileLength}
 use Rattle.bitmap.specs.Bitmap.{bitmapGood, readPicture, writtenFile, normalForm}
-use Rattle.bitmap.proofs.RoundTrip.{length-read, write-read}
+use Rattle.bitmap.proofs.RoundTrip.{rows-read, write-read}
 use Rattle.bitmap_normal.specs.Normal.{normalized}
 
 pub good-length : (b h s : ℕ) (file : List ℕ) → bitmapGood b h s file ≡ true → length file ≡ fileLength h s
 unfolding bitmapGood
 good-length b h s file e = eqb-true _ _ (and-left (eqb (length file) (fileLength h s)) _ e)
-
-read-bytes : (b h s : ℕ) (file : List ℕ) → Bytes file → Bytes (readPicture b h s file)
-unfolding readPicture
-read-bytes b h s file d k = go (decLt k (h * b))
-  where
-    f : ℕ → ℕ
-    f i = getD file (headerLength + ((h - 1 - i / b) * s + i % b)) 0
-
-    go : Dec (k < h * b) → getD (tabulate (h * b) f) k 0 < 256
-    go (yes l) = rw (getD-tabulate (h * b) f k 0 l) (d _)
-    go (no l) = rw (List·getD-eq-default (tabulate (h * b) f) 0 {n = k} (omega (arith, length-tabulate (h * b) f))) (omega arith)
 
 pub normalized-le : (b h s : ℕ) (file out : List ℕ) (r : ℕ) (after : List ℕ)
     → _≡_ {A = ℕ × List ℕ} (r, after) (normalized b h s file out) → r ≤ fileLength h s
@@ -71,5 +58,5 @@ module _ (b h s : ℕ) (pos : 0 < b) (within : b ≤ s) (file out : List ℕ) wh
   unfolding normalized
   rewritten raw after r good d e len o =
       let p = readPicture b h s file in
-      let back : pictureOf b h (rawOf b h p) ≡ p = picture-raw b h pos p (length-read b h s file, read-bytes b h s file d) in
+      let back : pictureOf b h (rawOf b h p) ≡ p = picture-raw b h pos p (rows-read b h s file d) in
       rw (good, len, o, e, back, write-read b h s pos within file)

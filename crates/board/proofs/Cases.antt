@@ -8,6 +8,7 @@ use lib.Dec.{eqb, ltb}
 use lib.ListN.{length, replicate}
 use Rattle.lists.specs.Lists.{overlay}
 use Rattle.lists.proofs.Rules.{None, by-cases}
+use Rattle.settings.specs.Settings.{rowBytesIn, rowsIn, strideIn}
 use Rattle.picture.specs.Slots.{slotPicture, withPicture}
 use Rattle.picture.specs.Regions.{regionCases, withRegion}
 use Rattle.bitmap.specs.Bitmap.{readPicture, writtenFile}
@@ -17,12 +18,12 @@ use Rattle.run.specs.Runs.{begun, waited}
 use Rattle.run.specs.declared.Tick.{Tick}
 use Rattle.run.specs.declared.Passed.{Passed}
 use Rattle.run.specs.declared.Run.{Run}
-use Rattle.poll.specs.HandOut.{Outcome, outcome, rowBytesIn, rowsIn, handOut}
+use Rattle.poll.specs.HandOut.{Outcome, outcome, handOut}
 use Rattle.poll.specs.Poll.{pollAt, pollCases, pollRun}
 use Rattle.poll.specs.declared.Answer.the-variants.{Refused, Wait}
 use Rattle.poll.specs.declared.Phase.the-variants.{Abandoned, Running}
 use Rattle.board.specs.State.{fileOf, withPhase, storeCases, emptyState, openedState}
-use Rattle.board.specs.Calls.{strideIn, reply, openCases, opening, uploadCases, regionUpload, bitmapCases, bitmapUpload, startCases, starting, abandonCases, abandoning, Polling, polling, pollPhase, polled, writeCases, bitmapWrite}
+use Rattle.board.specs.Calls.{reply, openCases, opening, uploadCases, regionUpload, bitmapCases, bitmapUpload, startCases, starting, abandonCases, abandoning, Polling, polling, pollPhase, polled, writeCases, bitmapWrite}
 use Rattle.board.specs.declared.State.{State}
 use Rattle.board.specs.declared.Reply.{Reply}
 

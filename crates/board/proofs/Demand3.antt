@@ -9,9 +9,7 @@ use native.Mathlib.Nat.{mul-le-mul-right}
 use native.Mathlib.Omega.{arith}
 use lib.ListN.{length, replicate}
 use Rattle.panel.specs.Dots.{dot}
-use Rattle.panel.specs.Panels.{framesOf}
-use Rattle.panel.proofs.Panels.{each-panel}
-use Rattle.settings.specs.Settings.{panelOf, settingsGood}
+use Rattle.settings.specs.Settings.{panelOf, settingsGood, rowBytesIn, rowsIn}
 use Rattle.settings.proofs.Accepted.{good-panel}
 use Rattle.picture.specs.Slots.{slotPicture}
 use Rattle.balance.specs.Sums.{sumOf, restSum}
@@ -19,7 +17,7 @@ use Rattle.balance.specs.Moves.{Dots, View, Moves}
 use Rattle.balance.specs.Moves as moves
 use Rattle.balance.proofs.Moves.{moves-within, moves-rest}
 use Rattle.run.specs.Due.{runFrames}
-use Rattle.poll.specs.HandOut.{rowBytesIn, rowsIn}
+use Rattle.run.proofs.Place.{frames-some}
 use Rattle.poll.specs.declared.Phase.{Phase}
 use Rattle.poll.specs.declared.Phase.the-variants.{Idle, Abandoned, Running}
 use Rattle.board.specs.State.{fileOf, storeBytes, openedState}
@@ -92,9 +90,6 @@ module _ (b h N : ℕ) (some : 0 < N) {first : Dots} (white : (x y : ℕ) → x 
       let is = at-rest b h memory (r .phase) (r .last) (sym still ∙ r .agree .stands) (r .agree .sees) in
       moves-rest b h N x y some fx fy (subst (λ (v : View). Moves b h N (moves.resting first) handed v) is (r .moved)) (white x y fx fy)
       ∙ rw (r .agree .shows)
-
-frames-some : (panel : ℕ) → panel < 3 → 0 < framesOf panel
-frames-some = each-panel (λ p. 0 < framesOf p) (omega arith) (omega arith) (omega arith)
 
 -- ---- the theorem
 

@@ -1,7 +1,7 @@
 -- What an accepted file and a valid state have, and the refusals that every call on a store begins with.
 -- Assumes nothing.
 use mathlib.Core.Path.{_≡_, refl, sym, ap, _∙_, subst}
-use mathlib.Core.Bool.{true, false}
+use mathlib.Core.Bool.{Bool, true, false, not, false≢true}
 use mathlib.Core.List.{List, _++_}
 use Prim.Native.Nat.{ℕ, suc, _+_, _-_, _*_, _≤_}
 use native.Mathlib.Nat.{mul-le-mul, add-sub-cancel-left}
@@ -14,16 +14,16 @@ use lib.Dec.{eqb}
 use lib.ListN.{length, getD, take, drop}
 use lib.Seq.{length-take-le}
 use Rattle.lists.specs.Rules.{Case, firstOf}
-use Rattle.lists.proofs.Rules.{broken, holds, decides, none, keep, First, None, past, given, taken, none-of, some-append, none-append}
+use Rattle.lists.proofs.Rules.{refused, passed, broken, holds, decides, none, keep, First, None, past, given, taken, none-of, some-append, none-append}
 use Rattle.lists.proofs.Parts.{more-rows, part-length}
 use Rattle.panel.specs.Panels.{rowBytesOf, rowsOf, strideOf}
 use Rattle.panel.proofs.Panels.{Size, size-of}
-use Rattle.settings.specs.Settings.{panelOf, settingsGood}
+use Rattle.settings.specs.Settings.{panelOf, settingsGood, rowBytesIn, rowsIn, strideIn}
+use Rattle.settings.specs.Facts.{Accepted}
+use Rattle.settings.specs.declared.Layout.{Layout}
 use Rattle.settings.proofs.Accepted.{good-panel}
-use Rattle.poll.specs.HandOut.{rowBytesIn, rowsIn}
 use Rattle.board.specs.State.{fileOf, phaseValid, stateRules, stateValid, storeBytes, storeCases}
-use Rattle.board.specs.Calls.{strideIn}
-use Rattle.board.specs.Facts.{SizesIn, SlotIn}
+use Rattle.board.specs.Facts.{StateValid, StoreChecked, SizesIn, SlotIn}
 use Rattle.board.specs.declared.State.{State}
 use Rattle.board.specs.declared.Sizes.{Sizes}
 
@@ -92,15 +92,21 @@ module _ (file : List ℕ) {r : Sizes} (sizes : SizesIn file r) (slot : ℕ) whe
 
 -- ---- a valid state
 
-pub state-broken : (k : ℕ) (state : State) → getD (stateRules state) k true ≡ false → false ≡ stateValid state
+pub state-broken : (k : ℕ) (state : State) → getD (stateRules state) k true ≡ false
+    → StateValid state (record { ok = false; stop = 0 })
 unfolding stateValid
-state-broken k state e = sym (broken k (stateRules state) e)
+state-broken k state e = record { good = sym (broken k (stateRules state) e); stop = λ t. absurd (false≢true t) }
 
-pub state-last : (state : State) → state .len ≤ length (state .file) → settingsGood (fileOf state) ≡ true → 1 ≤ state .slots
-    → state .slots ≤ 7 → phaseValid (fileOf state) (state .slots) (state .phase) ≡ stateValid state
+pub state-last : (state : State) → state .len ≤ length (state .file) → 1 ≤ state .slots → state .slots ≤ 7
+    → {ok : Bool} {stop : ℕ} → Accepted (fileOf state) stop → ok ≡ phaseValid (fileOf state) (state .slots) (state .phase)
+    → StateValid state (record { ok = ok; stop = stop })
 unfolding stateValid
-state-last state e f g h =
-    sym (decides 4 (stateRules state) (keep (le-leb _ _ e) (keep f (keep (le-leb _ _ g) (keep (le-leb _ _ h) (keep refl none))))))
+state-last state e g h accepted is =
+    record {
+      good = is
+          ∙ sym (decides 4 (stateRules state) (keep (le-leb _ _ e) (keep (accepted .good) (keep (le-leb _ _ g) (keep (le-leb _ _ h) (keep refl none))))));
+      stop = λ _. accepted;
+    }
 
 module _ (state : State) (valid : stateValid state ≡ true) where
   rule : (k : ℕ) → getD (stateRules state) k true ≡ true
@@ -121,17 +127,21 @@ module _ (state : State) (valid : stateValid state ≡ true) where
 
 -- ---- 13, 1, and a store that earns neither
 
-module _ (state : State) (m : ℕ) where
-  pub store-13 : stateValid state ≡ false → 13 ≡ firstOf (storeCases state m) (λ n. n) 0
-  store-13 e = rw e
+module _ (state : State) (m : ℕ) {layout : Layout} (is : StateValid state layout) where
+  pub store-13 : not (layout .ok) ≡ true → StoreChecked state m (record { number = 13; stop = layout .stop })
+  store-13 e = record { number-is = rw (refused (is .good) e); stop = λ z. absurd (omega (arith, z)) }
 
   -- k is the length that the store has
-  module _ (e : stateValid state ≡ true) {k : ℕ} (is : k ≡ storeBytes (fileOf state) (state .slots)) where
-    pub store-1 : (m ≡ k → ⊥) → 1 ≡ firstOf (storeCases state m) (λ n. n) 0
-    store-1 d = rw (e, ← is, ne-eqb m k d)
+  module _ (e : not (layout .ok) ≡ false) {k : ℕ} (bytes : k ≡ storeBytes (fileOf state) (state .slots)) where
+    pub store-1 : (m ≡ k → ⊥) → StoreChecked state m (record { number = 1; stop = layout .stop })
+    store-1 d = record { number-is = rw (passed (is .good) e, ← bytes, ne-eqb m k d); stop = λ z. absurd (omega (arith, z)) }
 
-    pub store-0 : m ≡ k → 0 ≡ firstOf (storeCases state m) (λ n. n) 0
-    store-0 d = rw (e, ← is, eq-eqb m k d)
+    pub store-0 : m ≡ k → StoreChecked state m (record { number = 0; stop = layout .stop })
+    store-0 d =
+        record {
+          number-is = rw (passed (is .good) e, ← bytes, eq-eqb m k d);
+          stop = λ _. is .stop (not-false (layout .ok) e);
+        }
 
 pub store-valid : (state : State) (m : ℕ) → None (storeCases state m) → stateValid state ≡ true
 store-valid state m (past e rest) = not-false (stateValid state) e

@@ -12,17 +12,6 @@ pub mod Polls
 pub mod Opening
 pub mod Demand3
 pub mod Tied
--- Theorems over every call: `Refusals` (a refused call changes nothing), `Invalid` (a broken condition earns 13 everywhere), `Kept`
--- (an accepted call leaves a state free of 13), `RoundTrips` (bitmaps through the calls), `Things`, `Order` and `Progress` (polls hand
--- out exactly the things of a run, in order). `Worked` is document 01's table of sums checked by hand.
-pub mod Refusals
-pub mod Invalid
-pub mod Kept
-pub mod RoundTrips
-pub mod Things
-pub mod Order
-pub mod Progress
-pub mod Worked
 -- Laws that the proofs of the functions cite.
 pub mod Guard
 pub mod OpenReply

@@ -10,11 +10,12 @@ use lib.ListN.{length}
 use Rattle.lists.specs.Rules.{firstOf}
 use Rattle.lists.proofs.Rules.{None, taken, holds, some-number, none-of}
 use Rattle.lists.proofs.Parts.{more-rows}
+use Rattle.settings.specs.Settings.{rowBytesIn, rowsIn}
 use Rattle.run.specs.Conditions.{runValid}
 use Rattle.run.specs.declared.Tick.{Tick}
 use Rattle.run.specs.declared.Run.{Run}
 use Rattle.run.proofs.Valid.{valid}
-use Rattle.poll.specs.HandOut.{outcome, rowBytesIn, rowsIn}
+use Rattle.poll.specs.HandOut.{outcome}
 use Rattle.poll.specs.Facts.{Room}
 use Rattle.poll.specs.declared.Answer.{Answer}
 use Rattle.poll.specs.declared.Answer.the-variants.{Refused}

@@ -8,7 +8,7 @@ use lib.ListN.{length, drop}
 use Rattle.lists.proofs.Rules.{None}
 use Rattle.lists.proofs.Rules as rules
 use Rattle.panel.specs.Dots.{dot}
-use Rattle.settings.specs.Settings.{Step, panelOf, startCount, startSteps, stopSection, stopCount, stopSteps, settingsGood, writesTo}
+use Rattle.settings.specs.Settings.{Step, panelOf, startCount, startSteps, stopSection, stopCount, stopSteps, settingsGood, writesTo, rowBytesIn, rowsIn}
 use Rattle.settings.specs.Steps.{fromWrite}
 use Rattle.picture.specs.Slots.{slotPicture}
 use Rattle.balance.specs.Sums.{pictureOfStage}
@@ -23,7 +23,7 @@ use Rattle.run.specs.declared.Position.{Position}
 use Rattle.run.specs.declared.Position.the-variants.{Start, Line, Stop}
 use Rattle.run.specs.declared.Run.{Run}
 use Rattle.poll.specs.Answers.{putOut}
-use Rattle.poll.specs.HandOut.{Outcome, outcome, rowBytesIn, rowsIn, stepBytes, lineBytes, sendWrite, sendLine, handStart, handStop, handOut}
+use Rattle.poll.specs.HandOut.{Outcome, outcome, stepBytes, lineBytes, sendWrite, sendLine, handStart, handStop, handOut}
 use Rattle.poll.specs.Poll.{pollRun}
 use Rattle.poll.specs.declared.Answer.the-variants.{Refused}
 use Rattle.poll.specs.declared.Phase.{Phase}

@@ -8,13 +8,13 @@ use lib.ListN.{length}
 use Rattle.lists.proofs.Rules.{None}
 use Rattle.lists.proofs.Rules as rules
 use Rattle.panel.specs.Dots.{dot}
+use Rattle.settings.specs.Settings.{rowBytesIn, rowsIn}
 use Rattle.picture.specs.Slots.{slotPicture}
 use Rattle.balance.specs.Moves.{Dots, line, View, Move}
 use Rattle.balance.specs.Moves as moves
 use Rattle.run.specs.Due.{runFrames}
 use Rattle.run.specs.Runs.{begun}
 use Rattle.run.specs.declared.Tick.{Tick}
-use Rattle.poll.specs.HandOut.{rowBytesIn, rowsIn}
 use Rattle.poll.specs.declared.Phase.{Phase}
 use Rattle.poll.specs.declared.Phase.the-variants.{Abandoned, Running}
 use Rattle.board.specs.State.{fileOf, withPhase}

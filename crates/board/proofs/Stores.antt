@@ -10,7 +10,7 @@ use lib.Dec.{eqb}
 use lib.ListN.{length, replicate}
 use Rattle.lists.proofs.Rules.{holds}
 use Rattle.lists.proofs.Parts.{more-rows, part-length}
-use Rattle.settings.specs.Settings.{panelOf, settingsGood}
+use Rattle.settings.specs.Settings.{panelOf, settingsGood, rowBytesIn, rowsIn}
 use Rattle.settings.proofs.Accepted.{good-panel}
 use Rattle.panel.specs.Panels.{strideOf}
 use Rattle.panel.proofs.Panels.{Size, size-of}
@@ -18,7 +18,6 @@ use Rattle.picture.specs.Slots.{pictureOf, rawOf, slotBytes, withBytes, slotPic
 use Rattle.picture.proofs.Slots.{bytes-same, bytes-other}
 use Rattle.run.specs.Conditions.{runRules, runValid}
 use Rattle.run.specs.declared.Run.{Run}
-use Rattle.poll.specs.HandOut.{rowBytesIn, rowsIn}
 use Rattle.board.specs.State.{fileOf, phaseValid, stateRules, stateValid, storeBytes}
 use Rattle.board.specs.declared.State.{State}
 

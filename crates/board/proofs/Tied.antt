@@ -9,9 +9,9 @@ use borrow.Fn.Kinds as FnKinds
 use contract.Lifetimes as Lifetimes
 use denote.Triple.Clauses as Clauses
 use denote.Ref.{now}
+use Rattle.settings.specs.Settings.{rowBytesIn, rowsIn}
 use Rattle.run.specs.Due.{runFrames}
 use Rattle.poll.specs.Answers.{putOut}
-use Rattle.poll.specs.HandOut.{rowBytesIn, rowsIn}
 use Rattle.board.specs.History as H
 use Rattle.board.specs.History.{Call, Event, event, number, answered, Called, callOn, ofReply, ofPoll, eventsOf, memoryAfter}
 use Rattle.board.specs.Balance.{Balanced}

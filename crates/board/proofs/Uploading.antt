@@ -11,13 +11,13 @@ use lib.ListN.{length, take, drop}
 use Rattle.lists.specs.Lists.{overlayAt}
 use Rattle.lists.specs.Rules.{Case, firstOf}
 use Rattle.lists.proofs.Rules.{None, past, and-left, and-right, taken, some-number, none-of, some-append, none-append, first-map}
+use Rattle.settings.specs.Settings.{rowBytesIn, rowsIn, strideIn}
 use Rattle.picture.specs.Slots.{rawOf, withBytes, withPicture}
 use Rattle.picture.specs.Regions.{regionCases, withRegion}
 use Rattle.bitmap.specs.Header.{fileLength}
 use Rattle.bitmap.specs.Bitmap.{bitmapGood, readPicture}
-use Rattle.poll.specs.HandOut.{rowBytesIn, rowsIn}
 use Rattle.board.specs.State.{fileOf}
-use Rattle.board.specs.Calls.{reply, takesPictures, strideIn, uploadCases, regionUpload, bitmapUpload, uploadOwn, bitmapCases}
+use Rattle.board.specs.Calls.{reply, takesPictures, uploadCases, regionUpload, bitmapUpload, uploadOwn, bitmapCases}
 use Rattle.board.specs.Facts.{SizesIn, SlotIn, bitmapPlaced, regionPlaced}
 use Rattle.board.specs.declared.Reply.{Reply}
 use Rattle.board.specs.declared.Sizes.{Sizes}

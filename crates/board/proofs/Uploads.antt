@@ -11,14 +11,14 @@ use Rattle.lists.proofs.Rules.{None, and-left, and-right}
 use Rattle.lists.proofs.Rules as rules
 use Rattle.panel.specs.Dots.{dot}
 use Rattle.panel.proofs.Dots.{dot-lt}
+use Rattle.settings.specs.Settings.{rowBytesIn, rowsIn, strideIn}
 use Rattle.picture.specs.Slots.{slotPicture, withPicture}
 use Rattle.picture.specs.Regions.{payloadRow, withRegion}
 use Rattle.picture.proofs.Slots.{rows-overdrawn}
 use Rattle.bitmap.proofs.RoundTrip.{length-read}
 use Rattle.balance.specs.Moves.{View}
-use Rattle.poll.specs.HandOut.{rowBytesIn, rowsIn}
 use Rattle.board.specs.State.{fileOf}
-use Rattle.board.specs.Calls.{strideIn, uploadCases}
+use Rattle.board.specs.Calls.{uploadCases}
 use Rattle.board.specs.History.{uploadRegion, uploadBitmap, ofReply, callOn, Seen}
 use Rattle.board.specs.declared.State.{State}
 use Rattle.board.proofs.Cases.{by-region, by-bitmap}

@@ -8,6 +8,7 @@ use native.Mathlib.Omega.{arith}
 use borrow.Author.Tests.{eqb-false}
 use lib.Dec.{ltb}
 use Rattle.panel.specs.Dots.{dot}
+use Rattle.settings.specs.Settings.{rowBytesIn, rowsIn}
 use Rattle.picture.specs.Slots.{slotPicture}
 use Rattle.wire.specs.Reading.{pushed}
 use Rattle.balance.specs.Moves.{Dots, Place, line, allOut, nextPlace, View, Silent, Move}
@@ -17,7 +18,6 @@ use Rattle.run.specs.Place.{nextPosition}
 use Rattle.run.specs.declared.Position.{Position}
 use Rattle.run.specs.declared.Position.the-variants.{Start, Line, Stop}
 use Rattle.run.specs.declared.Run.{Run}
-use Rattle.poll.specs.HandOut.{rowBytesIn, rowsIn}
 use Rattle.poll.specs.declared.Phase.{Phase}
 use Rattle.poll.specs.declared.Phase.the-variants.{Idle, Abandoned, Running}
 use Rattle.board.specs.State.{fileOf}

@@ -13,12 +13,12 @@ use lib.ListN.{length, take, drop}
 use Rattle.lists.specs.Lists.{overlay}
 use Rattle.lists.specs.Rules.{firstOf}
 use Rattle.lists.proofs.Rules.{None, past, taken, some-number, none-of}
+use Rattle.settings.specs.Settings.{rowBytesIn, rowsIn, strideIn}
 use Rattle.picture.specs.Slots.{pictureOf, slotBytes, slotPicture}
 use Rattle.bitmap.specs.Header.{fileLength}
 use Rattle.bitmap.specs.Bitmap.{writtenFile}
-use Rattle.poll.specs.HandOut.{rowBytesIn, rowsIn}
 use Rattle.board.specs.State.{fileOf}
-use Rattle.board.specs.Calls.{reply, strideIn, bitmapWrite, writeOwn, writeCases}
+use Rattle.board.specs.Calls.{reply, bitmapWrite, writeOwn, writeCases}
 use Rattle.board.specs.Facts.{SizesIn, SlotIn}
 use Rattle.board.specs.declared.Sizes.{Sizes}
 use Rattle.board.specs.declared.State.{State}

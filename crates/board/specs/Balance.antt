@@ -9,10 +9,10 @@ use mathlib.Core.Path.{_≡_}
 use mathlib.Core.List.{List}
 use lib.ListN.{replicate}
 use Rattle.panel.specs.Dots.{dot}
+use Rattle.settings.specs.Settings.{rowBytesIn, rowsIn}
 use Rattle.picture.specs.Slots.{slotPicture}
 use Rattle.balance.specs.Sums.{sumOf, Within, restSum}
 use Rattle.run.specs.Due.{runFrames}
-use Rattle.poll.specs.HandOut.{rowBytesIn, rowsIn}
 use Rattle.board.specs.Calls.{opening}
 use Rattle.board.specs.History.{Call, Event, eventsOf, memoryAfter, handedOut, atRest, Seen, seenAfter}
 

@@ -9,15 +9,14 @@ use lib.Dec.{eqb, leb, ltb}
 use lib.ListN.{length, replicate}
 use Rattle.lists.specs.Lists.{overlay}
 use Rattle.lists.specs.Rules.{Case, case, firstOf}
-use Rattle.panel.specs.Panels.{strideOf}
-use Rattle.settings.specs.Settings.{panelOf, settingsGood}
+use Rattle.settings.specs.Settings.{settingsGood, rowBytesIn, rowsIn, strideIn}
 use Rattle.picture.specs.Slots.{slotPicture, withPicture}
 use Rattle.picture.specs.Regions.{regionCases, withRegion}
 use Rattle.bitmap.specs.Header.{fileLength}
 use Rattle.bitmap.specs.Bitmap.{bitmapGood, readPicture, writtenFile}
 use Rattle.run.specs.Runs.{begun}
 use Rattle.run.specs.declared.Tick.{Tick}
-use Rattle.poll.specs.HandOut.{Outcome, outcome, rowBytesIn, rowsIn}
+use Rattle.poll.specs.HandOut.{Outcome, outcome}
 use Rattle.poll.specs.Poll.{pollRun}
 use Rattle.poll.specs.declared.Answer.{Answer}
 use Rattle.poll.specs.declared.Answer.the-variants as answer
@@ -49,10 +48,6 @@ abbrev pub isRunsSlot : Phase → (slot : ℕ) → Bool
 isRunsSlot Idle slot = false
 isRunsSlot Abandoned slot = false
 isRunsSlot (Running run) slot = eqb (run .slot) slot
-
--- the stride of a bitmap file's rows, for the panel of a settings file
-abbrev pub strideIn : (file : List ℕ) → ℕ
-strideIn file = strideOf (panelOf file)
 
 -- ---- opening: 2, 1; else all slots white
 

@@ -5,18 +5,31 @@ use mathlib.Core.Path.{_≡_}
 use mathlib.Core.Bool.{true}
 use mathlib.Core.List.{List}
 use Rattle.lists.specs.Rules.{firstOf}
-use Rattle.settings.specs.Settings.{settingsGood}
+use Rattle.settings.specs.Settings.{settingsGood, rowBytesIn, rowsIn, strideIn}
+use Rattle.settings.specs.Facts.{Accepted}
+use Rattle.settings.specs.declared.Layout.{Layout}
 use Rattle.picture.specs.Slots.{withPicture}
 use Rattle.picture.specs.Regions.{regionCases, withRegion}
 use Rattle.bitmap.specs.Bitmap.{readPicture}
-use Rattle.poll.specs.HandOut.{rowBytesIn, rowsIn}
 use Rattle.poll.specs.declared.Phase.{Phase}
-use Rattle.board.specs.Calls.{strideIn, bitmapCases}
+use Rattle.board.specs.State.{fileOf, stateValid, storeCases}
+use Rattle.board.specs.Calls.{bitmapCases}
 use Rattle.board.specs.declared.State.{State}
 use Rattle.board.specs.declared.Sizes.{Sizes}
+use Rattle.board.specs.declared.Checked.{Checked}
 
 abbrev pub stateOf : (file : List ℕ) (len slots : ℕ) → Phase → State
 stateOf file len slots phase = record { file = file; len = len; slots = slots; phase = phase }
+
+-- whether a state is valid, and where the stop section of its file begins
+pub record StateValid (state : State) (r : Layout) : Type 0 where
+  pub good : r .ok ≡ stateValid state
+  pub stop : r .ok ≡ true → Accepted (fileOf state) (r .stop)
+
+-- the refusals that every call on a store begins with; a store that earns none has an accepted file
+pub record StoreChecked (state : State) (memoryLength : ℕ) (r : Checked) : Type 0 where
+  pub number-is : r .number ≡ firstOf (storeCases state memoryLength) (λ n. n) 0
+  pub stop : r .number ≡ 0 → Accepted (fileOf state) (r .stop)
 
 -- the sizes of the panel that a settings file names
 pub record SizesIn (file : List ℕ) (r : Sizes) : Type 0 where

@@ -1,9 +1,7 @@
--- The store: its state, what each call on it does, the order of a run, and the sums of demand 3 over every list of calls. `Facts`
--- only names parts of internal contracts.
+-- The store: its state, what each call on it does, and the sums of demand 3 over every list of calls. `Facts` only names parts of
+-- internal contracts.
 pub mod State
 pub mod Calls
 pub mod History
 pub mod Balance
-pub mod Order
-pub mod Progress
 pub mod Facts

@@ -7,9 +7,8 @@ use lib.Dec.{eqb, leb}
 use lib.ListN.{length, take, replicate}
 use Rattle.lists.specs.Lists.{overlay}
 use Rattle.lists.specs.Rules.{every, Case, case}
-use Rattle.settings.specs.Settings.{longestFile, settingsGood}
+use Rattle.settings.specs.Settings.{longestFile, settingsGood, rowBytesIn, rowsIn}
 use Rattle.run.specs.Conditions.{runValid}
-use Rattle.poll.specs.HandOut.{rowBytesIn, rowsIn}
 use Rattle.poll.specs.declared.Phase.{Phase}
 use Rattle.poll.specs.declared.Phase.the-variants.{Idle, Abandoned, Running}
 use Rattle.board.specs.declared.State.{State}

@@ -5,51 +5,32 @@ ghost use mathlib.Core.Bool.{true};
 ghost use lib.ListN.{length};
 ghost use Rattle.lists.specs.Lists.{overlay};
 ghost use Rattle.lists.specs.Rules.{firstOf};
-ghost use Rattle.settings.specs.Settings.{longestFile, settingsGood};
+ghost use Rattle.settings.specs.Settings.{longestFile, settingsGood, rowBytesIn, rowsIn, strideIn};
 ghost use Rattle.picture.specs.Slots.{slotPicture, withPicture};
 ghost use Rattle.bitmap.specs.Header.{fileLength};
 ghost use Rattle.bitmap.specs.Bitmap.{bitmapGood, readPicture, writtenFile};
 ghost use Rattle.settings.specs.Facts.{Accepted};
 ghost use Rattle.run.specs.Runs.{begun};
-ghost use Rattle.poll.specs.HandOut.{outcome, rowBytesIn, rowsIn};
+ghost use Rattle.poll.specs.HandOut.{outcome};
 ghost use Rattle.poll.specs.Poll.{pollRun};
 ghost use Rattle.run.specs.Conditions.{runValid};
 ghost use Rattle.board.specs.State.{
   withPhase,
   phaseValid,
-  stateValid,
   storeBytes,
   storeCases,
   emptyState,
   openedState,
 };
-ghost use Rattle.board.specs.Calls.{
-  takesPictures,
-  isRunning,
-  isAbandoned,
-  isRunsSlot,
-  strideIn,
-  openCases,
-  opening,
-  uploadCases,
-  regionUpload,
-  bitmapUpload,
-  startCases,
-  starting,
-  abandonCases,
-  abandoning,
-  polling,
-  inState,
-  polled,
-  writeCases,
-  bitmapWrite,
-};
+ghost use Rattle.board.specs.Calls.{takesPictures, isRunning, isAbandoned, isRunsSlot, openCases, opening, uploadCases, regionUpload, bitmapUpload, startCases, starting, abandonCases, abandoning, polling, inState, polled, writeCases, bitmapWrite};
 ghost use Rattle.board.specs.Facts.{
   stateOf,
   bitmapPlaced,
   regionPlaced,
   SizesIn,
   SlotIn,
+  StateValid,
+  StoreChecked,
 };
 use poll::Answer;
 use poll::Handed;
@@ -58,6 +39,7 @@ use run::Passed;
 use run::Position;
 use run::Run;
 use run::Tick;
+use settings::Layout;
 
 // The state of a store: the accepted settings file, the number n of its last slot, and where it stands.
 pub struct State {
@@ -93,25 +75,27 @@ fn phase_valid(file: &[u8], stop: usize, slots: u32, phase: Phase) -> bool
     }
 }
 
-// Whether the parts of a state keep the conditions.
-fn state_valid(file: &[u8], len: usize, slots: u32, phase: Phase) -> bool
-    ensures { λ r. ⌜ r ≡ stateValid (stateOf (now (file .entry)) len slots phase) ⌝ }
+// Whether the parts of a state keep the conditions, and where the stop section of its file begins.
+fn state_valid(file: &[u8], len: usize, slots: u32, phase: Phase) -> Layout
+    ensures { λ r. ⌜ StateValid (stateOf (now (file .entry)) len slots phase) r ⌝ }
 {
     if file.len() < len {
-        return false;
+        return Layout { ok: false, stop: 0 };
     }
     let kept = &file[..len];
     let layout = settings::laid_out(kept);
+    let stop = layout.stop;
     if !layout.ok {
-        return false;
+        return Layout { ok: false, stop: 0 };
     }
     if slots < 1 {
-        return false;
+        return Layout { ok: false, stop: 0 };
     }
     if 7 < slots {
-        return false;
+        return Layout { ok: false, stop: 0 };
     }
-    phase_valid(kept, layout.stop, slots, phase)
+    let ok = phase_valid(kept, stop, slots, phase);
+    Layout { ok, stop }
 }
 
 // The sizes of a panel: the bytes of a row, the rows, and the bytes from one row of a bitmap file to the next.
@@ -143,17 +127,31 @@ fn store_bytes(file: &[u8], n: u32) -> usize
     (n as usize + 1) * (sizes.rows * sizes.bytes)
 }
 
-// 13 or 1; 0 where neither applies.
+// 13 or 1; 0 where neither applies, and then where the stop section of the file begins.
+struct Checked {
+    number: u8,
+    stop: usize,
+}
+
+fn check_store(file: &[u8], len: usize, slots: u32, phase: Phase, memory_len: usize) -> Checked
+    ensures { λ r. ⌜ StoreChecked (stateOf (now (file .entry)) len slots phase) «memory_len» r ⌝ }
+{
+    let layout = state_valid(file, len, slots, phase);
+    let stop = layout.stop;
+    if !layout.ok {
+        return Checked { number: 13, stop };
+    }
+    if memory_len != store_bytes(&file[..len], slots) {
+        return Checked { number: 1, stop };
+    }
+    Checked { number: 0, stop }
+}
+
 fn store_number(file: &[u8], len: usize, slots: u32, phase: Phase, memory_len: usize) -> u8
     ensures { λ r. ⌜ r ≡ firstOf (storeCases (stateOf (now (file .entry)) len slots phase) «memory_len») (λ n. n) 0 ⌝ }
 {
-    if !state_valid(file, len, slots, phase) {
-        return 13;
-    }
-    if memory_len != store_bytes(&file[..len], slots) {
-        return 1;
-    }
-    0
+    let checked = check_store(file, len, slots, phase, memory_len);
+    checked.number
 }
 
 // ---- opening
@@ -458,25 +456,6 @@ fn place_region(
 
 // ---- polls
 
-// A poll of the run of a store that earns neither 13 nor 1.
-fn poll_store(
-    file: &[u8],
-    slots: u32,
-    run: Run,
-    tick: Tick,
-    memory: &mut [u8],
-    out: &mut [u8],
-) -> Handed
-    requires { ⌜ (settingsGood (now file) ≡ true) × (runValid (now file) slots run ≡ true) × (slots ≤ 7)
-        × (length (now memory) ≡ storeBytes (now file) slots) ⌝ }
-    ensures { λ r. ⌜ outcome (r .answer) (r .phase) (now (memory .exit)) (now (out .exit))
-        ≡ pollRun (now (file .entry)) run tick (now (memory .entry)) (now (out .entry)) ⌝ }
-{
-    let layout = settings::laid_out(file);
-    let stop = layout.stop;
-    poll::poll_run(file, stop, run, tick, memory, out)
-}
-
 // A poll on the parts of a state.
 fn poll_parts(
     file: &[u8],
@@ -491,7 +470,9 @@ fn poll_parts(
         (outcome (r .answer) (r .phase) (now (memory .exit)) (now (out .exit)))
         ≡ polled (stateOf (now (file .entry)) len slots phase) tick (now (memory .entry)) (now (out .entry)) ⌝ }
 {
-    let number = store_number(file, len, slots, phase, memory.len());
+    let checked = check_store(file, len, slots, phase, memory.len());
+    let number = checked.number;
+    let stop = checked.stop;
     if number != 0 {
         return Handed {
             answer: Answer::Refused(number),
@@ -507,7 +488,7 @@ fn poll_parts(
             answer: Answer::Refused(9),
             phase: Phase::Abandoned,
         },
-        Phase::Running(run) => poll_store(&file[..len], slots, run, tick, memory, out),
+        Phase::Running(run) => poll::poll_run(&file[..len], stop, run, tick, memory, out),
     }
 }
 

@@ -2,10 +2,10 @@
 -- Assumes nothing.
 use mathlib.Core.Path.{_≡_, refl}
 use mathlib.Core.List.{[], _∷_, map}
-use Prim.Native.Nat.{ℕ, _*_, _%_, _≤_, _<_}
+use Prim.Native.Nat.{ℕ, _%_, _≤_, _<_}
 use native.Mathlib.Omega.{arith}
 use Rattle.lists.proofs.Cases.{none, more, each, entry-lt}
-use Rattle.panel.specs.Panels.{widthOf, rowsOf, rowBytesOf, pictureBytesOf, framesOf, strideOf}
+use Rattle.panel.specs.Panels.{rowsOf, rowBytesOf, pictureBytesOf, framesOf, strideOf}
 
 pub each-panel : (P : ℕ → Type 0) → P 0 → P 1 → P 2 → (panel : ℕ) → panel < 3 → P panel
 each-panel P a b c = each P 3 (more (more (more none a) b) c)
@@ -47,7 +47,3 @@ size-of =
     (size 16 96 16 (omega arith) (omega arith) (omega arith) (omega arith) refl (omega arith) (omega arith))
     (size 25 96 28 (omega arith) (omega arith) (omega arith) (omega arith) refl (omega arith) (omega arith))
     (size 33 176 36 (omega arith) (omega arith) (omega arith) (omega arith) refl (omega arith) (omega arith))
-
--- X is eight dots a byte
-pub width-bytes : (panel : ℕ) → panel < 3 → widthOf panel ≡ 8 * rowBytesOf panel
-width-bytes = each-panel (λ p. widthOf p ≡ 8 * rowBytesOf p) refl refl refl

@@ -19,9 +19,6 @@ const FRAMES: [u32; 3] = [16, 16, 21];
 
 const STRIDES: [usize; 3] = [16, 28, 36];
 
-// The bytes of data that registers 0x01 to 0x09 take.
-const DATA_LENGTHS: [usize; 10] = [0, 8, 1, 1, 1, 1, 1, 1, 1, 2];
-
 // The data of register 0x01.
 const CHANNELS: [[u8; 8]; 3] = [
     [0x00, 0x00, 0x00, 0x00, 0x00, 0x0F, 0xFF, 0x00],
@@ -74,14 +71,17 @@ pub fn stride(panel: usize) -> usize
     STRIDES[panel]
 }
 
-// How many bytes of data a register takes; 0 where there is no such register.
+// How many bytes of data a register takes; 0 where there is no such register. This is asked for every step at every call, and an
+// array that is indexed would be laid out anew each time.
 pub fn data_length(register: u8) -> usize
     ensures { λ r. ⌜ (r ≡ dataLength register) × (r ≤ 8) ⌝ }
 {
-    if 10 <= register {
-        return 0;
+    match register {
+        0x01 => 8,
+        0x02..=0x08 => 1,
+        0x09 => 2,
+        _ => 0,
     }
-    DATA_LENGTHS[register as usize]
 }
 
 pub fn channel_data(panel: usize) -> [u8; 8]

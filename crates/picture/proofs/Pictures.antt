@@ -1,17 +1,17 @@
--- Laws of `packDots`, `draw` and `over`: a picture is its dots.
+-- Laws of bytes, and of `packDots`, `draw` and `over`: a picture is its dots.
 -- Assumes nothing.
 use mathlib.Core.Path.{_≡_, refl, sym, ap, _∙_}
 use mathlib.Core.Bool.{Bool, true, false, cond, _&&_}
-use mathlib.Core.List.{List}
-use Prim.Native.Nat.{ℕ, _+_, _-_, _*_, _/_, _%_, _^_, _≤_, _<_}
+use mathlib.Core.List.{List, [], _∷_, _++_}
+use Prim.Native.Nat.{ℕ, zero, suc, _+_, _-_, _*_, _/_, _%_, _^_, _≤_, _<_}
 use native.Mathlib.Nat.{mod-lt, div-lt-iff-lt-mul, div-add-mod'}
 use native.Mathlib.Omega.{arith}
 use native.Mathlib.Decide.{decLt, decLe, ℕ-discrete}
 use lib.Arith.{digits-lt, digits-div, digits-mod}
 use lib.Bits.{bitAnd, bitOr}
 use lib.Dec.{eqb, leb, ltb}
-use lib.ListN.{List·getD-eq-default, length, getD, set, length-set}
-use lib.Seq.{getD-set-same, getD-set-other}
+use lib.ListN.{List·getD-eq-default, length, getD, set, take, drop, length-set, length-take}
+use lib.Seq.{getD-set-same, getD-set-other, getD-take, getD-drop}
 use borrow.Author.Tests.{lt-ltb, le-ltb, le-leb, lt-leb, eq-eqb, ne-eqb, eqb-true}
 use Rattle.lists.specs.Lists.{tabulate}
 use Rattle.lists.specs.Rules.{allBelow}
@@ -28,6 +28,32 @@ Bytes l = (k : ℕ) → getD l k 0 < 256
 
 abbrev pub Dots : (ℕ → ℕ → ℕ) → Type 0
 Dots f = (x y : ℕ) → f x y < 2
+
+-- ---- bytes stay bytes
+
+-- beyond a list there is 0, which is a byte
+bytes-where : (l : List ℕ) → ((k : ℕ) → k < length l → getD l k 0 < 256) → Bytes l
+bytes-where l e k =
+    elim (decLt k (length l)) [
+      | yes q ↦ e k q
+      | no q ↦ rw (List·getD-eq-default l 0 {n = k} (omega arith)) (omega arith)
+    ]
+
+pub bytes-tabulate : (n : ℕ) (f : ℕ → ℕ) → ((k : ℕ) → f k < 256) → Bytes (tabulate n f)
+bytes-tabulate n f e =
+    bytes-where (tabulate n f) (λ k q. rw (getD-tabulate n f k 0 (rw length-tabulate at q)) (e k))
+
+pub bytes-take : (n : ℕ) (l : List ℕ) → Bytes l → Bytes (take n l)
+bytes-take n l bytes =
+    bytes-where (take n l) (λ k q. rw (getD-take n l k 0 (omega (arith, length-take n l))) (bytes k))
+
+pub bytes-drop : (n : ℕ) (l : List ℕ) → Bytes l → Bytes (drop n l)
+bytes-drop n l bytes k = rw (getD-drop n l k 0) (bytes (n + k))
+
+pub bytes-append : (l m : List ℕ) → Bytes l → Bytes m → Bytes (l ++ m)
+bytes-append [] m p q k = q k
+bytes-append (x ∷ l) m p q zero = p 0
+bytes-append (x ∷ l) m p q (suc k) = bytes-append l m (λ i. p (suc i)) q k
 
 -- ---- a byte and its dots
 
@@ -198,17 +224,6 @@ place-of a j h = omega arith
 abbrev byteAt : (b : ℕ) (f : ℕ → ℕ → ℕ) (k : ℕ) → ℕ
 byteAt b f k = packDots (λ j. f (k % b * 8 + j) (k / b))
 
--- a picture whose rows are rows of another list, at a stride of s bytes
-pub draw-rows : (b h s : ℕ) (g : ℕ → ℕ) (l : List ℕ) → Bytes l
-    → draw b h (λ x y. dot s l x (g y)) ≡ tabulate (h * b) (λ k. getD l (g (k / b) * s + k % b) 0)
-unfolding draw dot
-draw-rows b h s g l d =
-    tabulate-cong (h * b) (byteAt b (λ x y. dot s l x (g y))) (λ k. getD l (g (k / b) * s + k % b) 0)
-    (λ k lk. let at : ℕ = g (k / b) * s + k % b in
-    pack-cong (λ j. dot s l (k % b * 8 + j) (g (k / b))) (bit (getD l at 0))
-    (λ j lj. rw (byte-of (k % b) j lj, place-of (k % b) j lj))
-    ∙ pack-bits (getD l at 0) (d at))
-
 module _ (b h : ℕ) (pos : 0 < b) where
   pub length-draw : (f : ℕ → ℕ → ℕ) → length (draw b h f) ≡ h * b
   unfolding draw
@@ -234,23 +249,17 @@ module _ (b h : ℕ) (pos : 0 < b) where
 
   pub bytes-draw : (f : ℕ → ℕ → ℕ) → Dots f → Bytes (draw b h f)
   unfolding draw
-  bytes-draw f d k = go (decLt k (h * b))
-    where
-      go : Dec (k < h * b) → getD (draw b h f) k 0 < 256
-      go (yes l) =
-          rw (getD-tabulate (h * b) (byteAt b f) k 0 l) (pack-lt (λ j. f (k % b * 8 + j) (k / b)) (λ j. d (k % b * 8 + j) (k / b)))
-      go (no l) = rw (List·getD-eq-default (draw b h f) 0 {n = k} (omega (arith, length-draw f))) (omega arith)
+  bytes-draw f d = bytes-tabulate (h * b) (byteAt b f) (λ k. pack-lt (λ j. f (k % b * 8 + j) (k / b)) (λ j. d (k % b * 8 + j) (k / b)))
 
   -- a picture drawn from its own dots
   pub draw-dot : (l : List ℕ) → Bytes l → length l ≡ h * b → draw b h (dot b l) ≡ l
+  unfolding draw dot
   draw-dot l d e =
-      draw-rows b h b (λ y. y) l d
-      ∙ sym (is-tabulate l (h * b) (λ k. getD l (k / b * b + k % b) 0) e (λ k lk. rw (div-add-mod' k b)))
-
-  -- two pictures with the same dots are the same
-  pub same-dots : (l m : List ℕ) → Bytes l → Bytes m → length l ≡ h * b → length m ≡ h * b
-      → ((x y : ℕ) → x < 8 * b → y < h → dot b l x y ≡ dot b m x y) → l ≡ m
-  same-dots l m dl dm el em e = sym (draw-dot l dl el) ∙ draw-cong (dot b l) (dot b m) e ∙ draw-dot m dm em
+      sym (is-tabulate l (h * b) (byteAt b (dot b l)) e
+      (λ k lk.
+      sym (pack-cong (λ j. dot b l (k % b * 8 + j) (k / b)) (bit (getD l k 0))
+      (λ j lj. rw (byte-of (k % b) j lj, place-of (k % b) j lj, div-add-mod' k b))
+      ∙ pack-bits (getD l k 0) (d k))))
 
   -- one dot of a picture replaced: the byte that holds it is
   pub set-bit : (l : List ℕ) → Bytes l → length l ≡ h * b → (x y new : ℕ) → x < 8 * b → y < h → new < 2

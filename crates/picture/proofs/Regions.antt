@@ -19,7 +19,7 @@ use Rattle.panel.proofs.Dots.{dot-lt}
 use Rattle.picture.specs.Pictures.{over, overdrawn}
 use Rattle.picture.specs.Slots.{slotBytes, withBytes, slotPicture, withPicture, painted}
 use Rattle.picture.specs.Regions.{regionGood, payloadRow, rowClear, payloadGood, regionCases, withRegion}
-use Rattle.picture.proofs.Slots.{Rows, rows-painted, rows-overdrawn, dot-overdrawn, length-with-picture, picture-same, picture-other}
+use Rattle.picture.proofs.Slots.{Rows, rows-painted, rows-overdrawn, dot-overdrawn, picture-same, picture-other}
 
 -- the bytes of a slot, with the panels' bounds
 pub slot-small : (b h : ℕ) → b ≤ 33 → h ≤ 176 → h * b ≤ 5808
@@ -152,10 +152,3 @@ module _ (b h : ℕ) (pos : 0 < b) (m : List ℕ) (slot : ℕ) (fits : slot * (h
             (dot-overdrawn b h pos old x y w k new (dot-lt (payloadRow w) l) u v hu hv)
         | no n ↦ rw (ne-eqb t slot n, picture-other b h m slot fits pos p r t n)
       ]
-
-  pub length-region : length (withRegion b h m slot x y w k l) ≡ length m
-  unfolding withRegion
-  length-region =
-      let new : ℕ → ℕ → ℕ = dot (payloadRow w) l in
-      length-with-picture b h m slot fits pos (overdrawn b h (slotPicture b h m slot) x y w k new)
-      (rows-overdrawn b h pos (slotPicture b h m slot) x y w k new (dot-lt (payloadRow w) l))

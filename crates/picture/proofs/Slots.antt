@@ -3,7 +3,7 @@
 use mathlib.Core.Path.{_≡_, refl, sym, ap, _∙_}
 use mathlib.Core.List.{List}
 use Prim.Native.Nat.{ℕ, _+_, _-_, _*_, _/_, _%_, _^_, _≤_, _<_}
-use native.Mathlib.Nat.{sub-zero, add-sub-cancel-left}
+use native.Mathlib.Nat.{add-sub-cancel-left}
 use native.Mathlib.Omega.{arith}
 use native.Mathlib.Decide.{decLt}
 use lib.Bits.{bitAnd, bitOr}
@@ -15,7 +15,7 @@ use Rattle.panel.proofs.Dots.{dot-lt}
 use Rattle.picture.specs.Pictures.{draw, over, overdrawn}
 use Rattle.picture.specs.Slots.{pictureOf, rawOf, slotBytes, withBytes, slotPicture, withPicture, pictureRow, painted}
 use Rattle.lists.proofs.Parts.{more-rows, part-own, part-before, part-behind, overlayAt-own}
-use Rattle.picture.proofs.Pictures.{Bytes, Dots, Inside, or-white, and-black, length-draw, bytes-draw, dot-draw, draw-cong, draw-dot, set-bit, over-in, over-out, over-cong, over-lt, over-dot, over-row}
+use Rattle.picture.proofs.Pictures.{Bytes, Dots, Inside, or-white, and-black, length-draw, bytes-draw, dot-draw, draw-cong, draw-dot, set-bit, over-out, over-cong, over-lt, over-dot, over-row}
 
 -- h rows of b bytes
 abbrev pub Rows : (b h : ℕ) (l : List ℕ) → Type 0
@@ -28,6 +28,13 @@ pub row-copied : (b h : ℕ) (l : List ℕ) (y at : ℕ) (out out′ : List ℕ)
     → out′ ≡ overlayAt at (take (y * b + b - y * b) (drop (y * b) l)) out → out′ ≡ overlayAt at (pictureRow b (pictureOf b h l) y) out
 unfolding pictureOf
 row-copied b h l y at out out′ e = rw (add-sub-cancel-left (y * b) b) at e
+
+-- row y, replaced by the bytes that are to hold it
+pub row-put : (b h : ℕ) (l : List ℕ) (y : ℕ) (rows : List ℕ) (at : ℕ) (l′ : List ℕ)
+    → l′ ≡ overlayAt (y * b) (take (at + b - at) (drop at rows)) l
+    → l′ ≡ rawOf b h (overlayAt (y * b) (take b (drop at rows)) (pictureOf b h l))
+unfolding pictureOf rawOf
+row-put b h l y rows at l′ e = rw (add-sub-cancel-left at b) at e
 
 module _ (b h : ℕ) (pos : 0 < b) where
   pub picture-raw : (l : List ℕ) → Rows b h l → pictureOf b h (rawOf b h l) ≡ l
@@ -133,14 +140,6 @@ module _ (b h : ℕ) (pos : 0 < b) where
   row-more l t t′ x y w j new d e r =
       let f : t′ ≡ painted b h l x y w (j + 1) new = r ∙ rw e (painted-row l x y w j new d) in
       (ap length f ∙ rows-painted l x y w (j + 1) new d .0, f)
-
-  -- a picture painted over as a whole
-  pub painted-whole : (l : List ℕ) (new : ℕ → ℕ → ℕ) → painted b h l 0 0 (8 * b) h new ≡ rawOf b h (draw b h new)
-  unfolding painted overdrawn
-  painted-whole l new =
-      ap (λ (t : List ℕ). rawOf b h t)
-      (draw-cong b h pos (over 0 0 (8 * b) h new (dot b (pictureOf b h l))) new
-      (λ x y hx hy. over-in 0 0 (8 * b) h new (dot b (pictureOf b h l)) x y (omega arith) ∙ simp sub-zero))
 
 -- ---- the slots of the memory
 

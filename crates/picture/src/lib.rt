@@ -2,11 +2,11 @@
 ghost use mathlib.Core.Path.{_≡_};
 ghost use Prim.Native.Nat.{_+_, _-_, _*_, _/_, _<_, _≤_};
 ghost use mathlib.Core.Bool.{true};
-ghost use lib.ListN.{length};
+ghost use lib.ListN.{length, take, drop};
 ghost use Rattle.lists.specs.Lists.{overlayAt};
 ghost use Rattle.lists.specs.Rules.{allBelow, firstOf};
 ghost use Rattle.panel.specs.Dots.{dot};
-ghost use Rattle.picture.specs.Slots.{pictureOf, pictureRow, painted};
+ghost use Rattle.picture.specs.Slots.{pictureOf, rawOf, pictureRow, painted};
 ghost use Rattle.picture.specs.Regions.{
   regionGood,
   payloadRow,
@@ -39,7 +39,7 @@ fn set_dot(b: usize, h: usize, raw: &mut [u8], x: usize, y: usize, v: u8)
 }
 
 // Paints the first `width` dots of row j of `rows`, which have rb bytes each, on a slot from dot x of row y on.
-pub fn paint_row(
+fn paint_row(
     b: usize,
     h: usize,
     raw: &mut [u8],
@@ -95,6 +95,16 @@ pub fn copy_row(b: usize, h: usize, raw: &[u8], y: usize, out: &mut [u8], at: us
     let start = y * b;
     let end = start + b;
     lists::put_at(out, at, &raw[start..end]);
+}
+
+// Makes row y of the picture that a slot holds the b bytes of `rows` from index `at` on.
+pub fn put_row(b: usize, h: usize, raw: &mut [u8], y: usize, rows: &[u8], at: usize)
+    requires { ⌜ (length (now raw) ≡ h * b) × (y < h) × (b ≤ 33) × (h ≤ 176) × (at + b ≤ length (now rows)) ⌝ }
+    ensures { λ _. ⌜ now (raw .exit)
+        ≡ rawOf b h (overlayAt (y * b) (take b (drop at (now (rows .entry)))) (pictureOf b h (now (raw .entry)))) ⌝ }
+{
+    let end = at + b;
+    lists::put_at(raw, y * b, &rows[at..end]);
 }
 
 // Whether a region lies on the panel. The sums are whole numbers: they are made wider before they are added.

@@ -6,7 +6,7 @@ use mathlib.Core.List.{List, [], _∷_}
 use Prim.Native.Nat.{ℕ, _+_, _-_, _≤_}
 use native.Mathlib.Omega.{arith}
 use lib.ListN.{length, drop, length-drop, getD}
-use Rattle.settings.specs.Settings.{Step, stepOf, stepsOf, panelOf, startCount, startSteps, stopCount, stopSteps, settingsGood}
+use Rattle.settings.specs.Settings.{Step, stepOf, stepsOf, panelOf, startCount, startSteps, stopCount, stopSteps, settingsGood, rowsIn}
 use Rattle.settings.specs.Steps.{fromWrite}
 use Rattle.settings.specs.Facts.{kindOf, kindSize, Found, Accepted}
 use Rattle.settings.specs.declared.NextWrite.{NextWrite}
@@ -24,7 +24,7 @@ use Rattle.run.specs.declared.Position.the-variants as place
 use Rattle.run.proofs.Due.{stops-here, steps-here}
 use Rattle.run.proofs.Place.{frames-some, rows-some}
 use Rattle.run.proofs.Valid.{at-start, at-line, at-stop}
-use Rattle.poll.specs.HandOut.{outcome, rowsIn, stepBytes, lineBytes, shownAfter, sendWrite, sendLine, handStart, handStop}
+use Rattle.poll.specs.HandOut.{outcome, stepBytes, lineBytes, shownAfter, sendWrite, sendLine, handStart, handStop}
 use Rattle.poll.specs.Facts.{Sent, SlotIn, LineIn, Room}
 use Rattle.poll.specs.declared.Answer.the-variants.{Write, Line, Done}
 use Rattle.poll.specs.declared.Phase.{Phase}

@@ -16,9 +16,10 @@ use Rattle.lists.proofs.Parts.{more-rows, part-length}
 use Rattle.panel.specs.Dots.{rowDot}
 use Rattle.wire.specs.Line.{lineLength, handedLine}
 use Rattle.wire.proofs.Line.{length-handed}
+use Rattle.settings.specs.Settings.{rowBytesIn, rowsIn}
 use Rattle.picture.specs.Slots.{pictureOf, slotBytes, withBytes, slotPicture, pictureRow}
 use Rattle.balance.specs.Sums.{pictureOfStage}
-use Rattle.poll.specs.HandOut.{rowBytesIn, rowsIn, lineBytes, shownAfter}
+use Rattle.poll.specs.HandOut.{lineBytes, shownAfter}
 use Rattle.poll.specs.Facts.{Sent, SlotIn}
 
 -- ---- the slot that a stage looks at

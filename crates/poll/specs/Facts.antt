@@ -6,10 +6,9 @@ use mathlib.Core.Bool.{true}
 use mathlib.Core.List.{List}
 use lib.ListN.{length}
 use Rattle.lists.specs.Lists.{overlay}
-use Rattle.settings.specs.Settings.{settingsGood}
+use Rattle.settings.specs.Settings.{settingsGood, rowBytesIn, rowsIn}
 use Rattle.run.specs.Due.{runFrames}
 use Rattle.run.specs.declared.Run.{Run}
-use Rattle.poll.specs.HandOut.{rowBytesIn, rowsIn}
 
 -- bytes were put at the front of an output, which then is `after`; `count` is how many
 pub record Sent (bytes out : List ℕ) (count : ℕ) (after : List ℕ) : Type 0 where

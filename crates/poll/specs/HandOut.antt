@@ -4,11 +4,10 @@ use Prim.Native.Nat.{ℕ, _-_}
 use mathlib.Core.List.{List, [], _∷_}
 use lib.ListN.{length, drop}
 use Rattle.lists.specs.Lists.{overlay}
-use Rattle.panel.specs.Panels.{rowsOf, rowBytesOf}
 use Rattle.panel.specs.Dots.{rowDot}
 use Rattle.wire.specs.Registers.{registerWrite}
 use Rattle.wire.specs.Line.{handedLine}
-use Rattle.settings.specs.Settings.{Step, write, wait, malformed, panelOf, startCount, startSteps, stopCount, stopSteps}
+use Rattle.settings.specs.Settings.{Step, write, wait, malformed, startCount, startSteps, stopCount, stopSteps, rowBytesIn, rowsIn}
 use Rattle.settings.specs.Steps.{fromWrite}
 use Rattle.picture.specs.Slots.{slotBytes, withBytes, slotPicture, pictureRow}
 use Rattle.balance.specs.Sums.{pictureOfStage}
@@ -28,13 +27,6 @@ use Rattle.poll.specs.declared.Phase.the-variants.{Idle, Running}
 -- the answer, the phase of the store afterwards, and the picture memory and the output at exit
 pub data Outcome : Type 0 where
   outcome : (answer : Answer) (phase : Phase) (memory out : List ℕ) → Outcome
-
--- the sizes of the panel that a settings file names
-abbrev pub rowBytesIn : (file : List ℕ) → ℕ
-rowBytesIn file = rowBytesOf (panelOf file)
-
-abbrev pub rowsIn : (file : List ℕ) → ℕ
-rowsIn file = rowsOf (panelOf file)
 
 -- the bytes of a step: a register write; nothing else is handed out
 abbrev pub stepBytes : Step → List ℕ

@@ -5,33 +5,13 @@ ghost use mathlib.Core.Bool.{true};
 ghost use mathlib.Core.List.{List};
 ghost use lib.ListN.{length, take, drop};
 ghost use Rattle.lists.specs.Lists.{overlayAt};
-ghost use Rattle.settings.specs.Settings.{
-  stepOf,
-  panelOf,
-  startCount,
-  startSteps,
-  stopCount,
-  stopSteps,
-  settingsGood,
-};
+ghost use Rattle.settings.specs.Settings.{stepOf, panelOf, startCount, startSteps, stopCount, stopSteps, settingsGood, rowBytesIn, rowsIn};
 ghost use Rattle.settings.specs.Steps.{fromWrite};
 ghost use Rattle.balance.specs.Sums.{pictureOfStage};
 ghost use Rattle.run.specs.Runs.{moved, waited};
 ghost use Rattle.run.specs.Facts.{Ready};
 ghost use Rattle.settings.specs.Facts.{Accepted};
-ghost use Rattle.poll.specs.HandOut.{
-  rowsIn,
-  rowBytesIn,
-  stepBytes,
-  lineBytes,
-  shownAfter,
-  outcome,
-  sendWrite,
-  sendLine,
-  handStart,
-  handStop,
-  handOut,
-};
+ghost use Rattle.poll.specs.HandOut.{stepBytes, lineBytes, shownAfter, outcome, sendWrite, sendLine, handStart, handStop, handOut};
 ghost use Rattle.poll.specs.Poll.{pollAt, pollRun};
 ghost use Rattle.poll.specs.Facts.{Sent, SlotIn, LineIn, Room};
 use run::Passed;

@@ -1,9 +1,8 @@
 -- What a tick reading says, case by case.
 -- Assumes nothing.
-use mathlib.Core.Path.{_≡_, ap}
-use mathlib.Core.Bool.{Bool, true, false, cond, or-true}
-use Prim.Native.Nat.{ℕ, _≤_, _<_, _^_}
-use native.Mathlib.Omega.{arith}
+use mathlib.Core.Path.{_≡_}
+use mathlib.Core.Bool.{or-true}
+use Prim.Native.Nat.{_≤_, _<_, _^_}
 use borrow.Author.Tests.{le-leb, lt-leb}
 use Rattle.run.specs.Clock.{stepFrom, passedAt, clockRefused, readingOf}
 use Rattle.run.specs.declared.Tick.{Tick}
@@ -23,15 +22,3 @@ module _ (passed : Passed) (last tick : Tick) where
       → readingOf passed last tick ≡ At (record { 0 = passedAt passed last tick })
   unfolding readingOf clockRefused
   clock-at h l = rw (lt-leb (2 ^ 31) (stepFrom last tick) h, lt-leb (2 ^ 64) (passedAt passed last tick) l)
-
--- passed time never goes back
-read-at : (b : Bool) (now moment : Passed) → cond b Refused (At now) ≡ At moment → now ≡ moment
-read-at true now moment e = absurd (let z : _≡_ {A = ℕ} 0 1 = cc in omega arith)
-read-at false now moment e = cc
-
-pub clock-on : (passed : Passed) (last tick : Tick) (moment : Passed) → readingOf passed last tick ≡ At moment → passed .0 ≤ moment .0
-unfolding readingOf
-clock-on passed last tick moment e =
-    let z : passedAt passed last tick ≡ moment .0 =
-    ap (λ p. p .0) (read-at (clockRefused passed last tick) (record { 0 = passedAt passed last tick }) moment e) in
-    omega arith

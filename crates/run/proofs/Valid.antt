@@ -56,7 +56,6 @@ module _ (file : List ℕ) (run : Run) where
   pub record AtStart (k : ℕ) : Type 0 where
     pub few : k ≤ startCount file
     pub after : afterWrite (startSteps file) k ≡ true
-    pub untouched : k ≡ 0 → run .handed .0 ≡ 0
     pub unknown : run .first .0 ≡ 0
 
   -- among the lines
@@ -80,7 +79,6 @@ module _ (file : List ℕ) (run : Run) where
       record {
         few = leb-true _ _ (rule 0);
         after = rule 1;
-        untouched = λ z. eqb-true (run .handed .0) 0 (sym (ap (λ b. not b || eqb (run .handed .0) 0) (eq-eqb k 0 z)) ∙ rule 2);
         unknown = eqb-true _ _ (rule 3);
       }
 
@@ -166,9 +164,6 @@ module _ (file : List ℕ) (n : ℕ) (run : Run) where
 
     pub valid-line : (stage frame row : ℕ) → run .next ≡ Line stage frame row → AtLine file run stage frame row
     valid-line stage frame row at = at-line file run stage frame row (here at)
-
-    pub valid-stop : (k : ℕ) → run .next ≡ Stop k → AtStop file run k
-    valid-stop k at = at-stop file run k (here at)
 
     pub valid-ready : (moment : Passed) → run .passed .0 ≤ moment .0 → Ready file run (run .next) moment
     valid-ready moment h =

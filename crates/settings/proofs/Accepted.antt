@@ -1,17 +1,17 @@
 -- What holds of every file that is accepted.
 -- Assumes nothing.
-use mathlib.Core.Path.{_≡_, sym, ap, _∙_}
-use mathlib.Core.Bool.{true, false, false≢true}
-use mathlib.Core.List.{List, [], _∷_, _++_, List·Memᴰ, List·Memᴰ·not-nil, List·Memᴰ·cases-cons, List·Memᴰ·append-cases}
+use mathlib.Core.Path.{_≡_}
+use mathlib.Core.Bool.{true, false≢true}
+use mathlib.Core.List.{List}
 use mathlib.Core.Logic.{⊎-elim}
 use Prim.Native.Nat.{ℕ, zero, suc, _+_, _*_, _≤_, _<_}
 use native.Mathlib.Omega.{arith}
 use borrow.Author.Tests.{leb-true, ltb-true, eqb-true}
 use lib.ListN.{length, getD, drop, length-drop}
-use Rattle.lists.proofs.Rules.{and-left, and-right, holds, either}
+use Rattle.lists.proofs.Rules.{holds, either}
 use Rattle.panel.specs.Registers.{dataLength}
 use Rattle.panel.proofs.Registers.{data-length-le}
-use Rattle.settings.specs.Settings.{Step, write, wait, malformed, stepOf, sizeOf, stepsOf, restOf, isStep, allSteps, isWriteTo, writesTo, longestFile, panelOf, startCount, startSteps, stopSection, stopCount, stopSteps, endOf, settingsRules, settingsGood}
+use Rattle.settings.specs.Settings.{Step, write, wait, malformed, stepOf, sizeOf, stepsOf, restOf, isWriteTo, writesTo, longestFile, panelOf, startCount, startSteps, stopSection, stopCount, stopSteps, endOf, settingsRules, settingsGood}
 use Rattle.settings.proofs.Steps.{length-steps}
 
 -- ---- how long steps are
@@ -47,19 +47,6 @@ written-le register panel (suc n) s e =
     omega (arith, size-le step, length-drop z s, written-le register panel n (drop z s) t))
     (either (isWriteTo register step) (writesTo register (stepsOf panel n (drop z s))) e)
 
--- ---- steps that are steps
-
-is-step : (step : Step) → isStep step ≡ true → step ≡ malformed → ⊥
-is-step step e m = false≢true (sym (ap isStep m) ∙ e)
-
-all-steps : (steps : List Step) → allSteps steps ≡ true → (step : Step) → List·Memᴰ step steps → step ≡ malformed → ⊥
-all-steps [] e step m = absurd (List·Memᴰ·not-nil m)
-all-steps (x ∷ xs) e step m =
-    ⊎-elim
-    (λ (q : step ≡ x). is-step step (ap isStep q ∙ and-left (isStep x) (allSteps xs) e))
-    (λ (t : List·Memᴰ step xs). all-steps xs (and-right (isStep x) (allSteps xs) e) step t)
-    (List·Memᴰ·cases-cons m)
-
 -- ---- an accepted file
 
 module _ (file : List ℕ) (good : settingsGood file ≡ true) where
@@ -85,14 +72,6 @@ module _ (file : List ℕ) (good : settingsGood file ≡ true) where
 
   pub length-stops : length (stopSteps file) ≡ stopCount file
   length-stops = length-steps (panelOf file) (stopCount file) (drop 1 (stopSection file))
-
-  -- none of the steps is malformed
-  pub good-steps : (step : Step) → List·Memᴰ step (startSteps file ++ stopSteps file) → step ≡ malformed → ⊥
-  good-steps step m =
-      ⊎-elim
-      (all-steps (startSteps file) (kept 5) step)
-      (all-steps (stopSteps file) (kept 10) step)
-      (List·Memᴰ·append-cases (startSteps file) m)
 
   -- three bytes, 31 start steps of ten bytes and the write of 0x04, a count, and 32 stop steps of ten bytes
   pub good-short : length file ≤ longestFile

@@ -13,7 +13,7 @@ use lib.ListN.{length, getD, drop, length-drop}
 use lib.Seq.{drop-drop, getD-drop}
 use Rattle.lists.specs.Rules.{every}
 use Rattle.lists.proofs.Rules.{broken, holds, none, keep, all-kept, every-parts, others}
-use Rattle.settings.specs.Settings.{stepsOf, restOf, allSteps, writesTo, panelOf, startCount, startSteps, stopSection, stopCount, stopSteps, endOf, settingsRules, settingsGood}
+use Rattle.settings.specs.Settings.{stepsOf, restOf, allSteps, panelOf, startCount, stopSection, stopCount, stopSteps, endOf, settingsRules, settingsGood}
 use Rattle.settings.specs.Facts.{headRules, startRules, stopRules, Readable, StopAt, StepsPassed, StartPassed, LaidOut}
 use Rattle.settings.specs.declared.StepsEnd.{StepsEnd}
 
@@ -25,14 +25,15 @@ readable file e =
 
 -- ---- the start steps
 
-pub start-refused : (k : ℕ) (file : List ℕ) → getD (startRules file) k true ≡ false → StartPassed file (record { ok = false; end = 0 })
-start-refused k file e = record { good = sym (broken k (startRules file) e); stop = λ t. absurd (false≢true t) }
+pub start-refused : {file : List ℕ} (k : ℕ) → getD (startRules file) k true ≡ false → StartPassed file (record { ok = false; stop = 0 })
+start-refused {file} k e = record { good = sym (broken k (startRules file) e); stop = λ t. absurd (false≢true t) }
 
-pub start-passed : (file : List ℕ) (r : StepsEnd) → StepsPassed (panelOf file) (startCount file) 3 file r → r .ok ≡ true
-    → writesTo 0x01 (startSteps file) ≡ true → writesTo 0x04 (startSteps file) ≡ true → StartPassed file r
-start-passed file r passed ok one four =
+pub start-passed : {file : List ℕ} {r : StepsEnd} → StepsPassed (panelOf file) (startCount file) 3 file r → r .ok ≡ true
+    → r .channels ≡ true → r .level ≡ true → StartPassed file (record { ok = true; stop = r .end })
+start-passed passed ok channels level =
+    let written = keep (sym (passed .channels ok) ∙ channels) (keep (sym (passed .level ok) ∙ level) none) in
     record {
-      good = ok ∙ sym (all-kept (keep (sym (passed .good) ∙ ok) (keep one (keep four none))));
+      good = sym (all-kept (keep (sym (passed .good) ∙ ok) written));
       stop = λ t. record { within = passed .within; rest = passed .rest };
     }
 

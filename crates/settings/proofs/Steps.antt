@@ -1,7 +1,7 @@
 -- Laws of single steps, and of a list of steps that is passed one by one.
 -- Assumes nothing.
 use mathlib.Core.Path.{_≡_, refl, sym, ap, _∙_}
-use mathlib.Core.Bool.{Bool, true, false, cond, _&&_}
+use mathlib.Core.Bool.{Bool, true, false, cond, _&&_, _||_, or-assoc}
 use mathlib.Core.List.{List, [], _∷_}
 use Prim.Native.Nat.{ℕ, zero, suc, _+_, _-_, _*_, _≤_, _<_}
 use native.Mathlib.Nat.{sub-zero, suc-sub-suc}
@@ -165,17 +165,10 @@ module _ {panel : ℕ} {file : List ℕ} {at n : ℕ} {kind : Kind} {z : ℕ} (t
   pub stuck-rest : z ≡ 0 → restOf panel n (drop at file) ≡ drop at file
   stuck-rest h = rest-stuck panel n (drop at file) (sym sized ∙ h)
 
-  -- whether this step writes a register
-  pub writes-here : (register : ℕ) {b : Bool} → b ≡ kindWritesTo register kind → isWriteTo register (stepOf panel (drop at file)) ≡ b
-  writes-here register w = sym (w ∙ ap (kindWritesTo register) (turn .read) ∙ kind-writes-to register (stepOf panel (drop at file)))
-
-  pub next-writes : (register : ℕ) → isWriteTo register (stepOf panel (drop at file)) ≡ false
-      → writesTo register (stepsOf panel n (drop at file)) ≡ writesTo register (stepsOf panel (n - 1) (drop (at + z) file))
-  next-writes register h = rw (next-steps, h)
-
-  pub first-writes : (register : ℕ) → isWriteTo register (stepOf panel (drop at file)) ≡ true
-      → writesTo register (stepsOf panel n (drop at file)) ≡ true
-  first-writes register h = rw (next-steps, h)
+  -- a register is written up to this step or behind it just when it was written before or is by one of the n steps
+  pub next-writes : (register : ℕ) (before : Bool) {so-far : Bool} → so-far ≡ (before || kindWritesTo register kind)
+      → (so-far || writesTo register (stepsOf panel (n - 1) (drop (at + z) file))) ≡ (before || writesTo register (stepsOf panel n (drop at file)))
+  next-writes register before e = rw (e, turn .read, kind-writes-to, or-assoc, next-steps)
 
 -- where all are steps, so are those behind the first k
 pub all-from : (k : ℕ) (steps : List Step) → allSteps steps ≡ true → allSteps (drop k steps) ≡ true

@@ -8,7 +8,7 @@ use lib.Dec.{eqb}
 use lib.ListN.{length, take, drop}
 use Rattle.lists.specs.Rules.{every}
 use Rattle.panel.specs.Registers.{dataLength}
-use Rattle.settings.specs.Settings.{Step, write, wait, malformed, stepsOf, restOf, allSteps, panelOf, stopSection, settingsRules, settingsGood}
+use Rattle.settings.specs.Settings.{Step, write, wait, malformed, stepsOf, restOf, allSteps, writesTo, panelOf, stopSection, settingsRules, settingsGood}
 use Rattle.settings.specs.Steps.{waitsBefore, fromWrite}
 use Rattle.settings.specs.declared.Kind.{Kind}
 use Rattle.settings.specs.declared.Kind.the-variants.{Write, Wait, Malformed}
@@ -32,11 +32,13 @@ kindWritesTo register (Write r) = eqb r register
 kindWritesTo register (Wait ms) = false
 kindWritesTo register Malformed = false
 
--- n steps from index `at` on were passed
+-- n steps from index `at` on were passed: where they end, and whether they write the channels and the level
 pub record StepsPassed (panel n at : ℕ) (file : List ℕ) (r : StepsEnd) : Type 0 where
   pub good : r .ok ≡ allSteps (stepsOf panel n (drop at file))
   pub within : r .end ≤ length file
   pub rest : drop (r .end) file ≡ restOf panel n (drop at file)
+  pub channels : r .ok ≡ true → r .channels ≡ writesTo 0x01 (stepsOf panel n (drop at file))
+  pub level : r .ok ≡ true → r .level ≡ writesTo 0x04 (stepsOf panel n (drop at file))
 
 -- the rules in three parts: those up to the count of the start steps, those of the start steps, and the others
 abbrev pub headRules : (file : List ℕ) → List Bool
@@ -65,9 +67,9 @@ pub record Accepted (file : List ℕ) (stop : ℕ) : Type 0 where
   pub rest : drop stop file ≡ stopSection file
 
 -- whether the start steps keep their rules, and where the stop section begins
-pub record StartPassed (file : List ℕ) (r : StepsEnd) : Type 0 where
+pub record StartPassed (file : List ℕ) (r : Layout) : Type 0 where
   pub good : r .ok ≡ every (startRules file)
-  pub stop : r .ok ≡ true → StopAt file (r .end)
+  pub stop : r .ok ≡ true → StopAt file (r .stop)
 
 -- whether a file is accepted, and where its stop section begins
 pub record LaidOut (file : List ℕ) (r : Layout) : Type 0 where

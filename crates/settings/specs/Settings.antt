@@ -6,7 +6,7 @@ use mathlib.Core.List.{List, [], _∷_}
 use lib.Dec.{ltb, leb, eqb}
 use lib.ListN.{length, getD, take, drop}
 use Rattle.lists.specs.Rules.{every}
-use Rattle.panel.specs.Panels.{isPanel}
+use Rattle.panel.specs.Panels.{isPanel, rowsOf, rowBytesOf, strideOf}
 use Rattle.panel.specs.Registers.{dataLength, channelData, gateSourceLevel}
 
 -- the longest file that is accepted
@@ -90,6 +90,16 @@ writesTo register (step ∷ steps) = isWriteTo register step || writesTo registe
 
 abbrev pub panelOf : (file : List ℕ) → ℕ
 panelOf file = getD file 1 0
+
+-- the bytes of a row, the rows and the stride of the panel that a file names
+abbrev pub rowBytesIn : (file : List ℕ) → ℕ
+rowBytesIn file = rowBytesOf (panelOf file)
+
+abbrev pub rowsIn : (file : List ℕ) → ℕ
+rowsIn file = rowsOf (panelOf file)
+
+abbrev pub strideIn : (file : List ℕ) → ℕ
+strideIn file = strideOf (panelOf file)
 
 abbrev pub startCount : (file : List ℕ) → ℕ
 startCount file = getD file 2 0

@@ -1,5 +1,6 @@
 // The settings file: the check of its rules, and the reading of its steps.
 ghost use mathlib.Core.Path.{_≡_};
+ghost use mathlib.Core.Bool.{_||_};
 ghost use Prim.Native.Nat.{_+_, _-_, _*_, _≤_, _<_};
 ghost use Rattle.lists.specs.Rules.{every};
 ghost use lib.ListN.{length, drop};
@@ -11,7 +12,6 @@ ghost use Rattle.settings.specs.Settings.{
   waitOf,
   stepOf,
   stepsOf,
-  writesTo,
   panelOf,
   checkSettings,
 };
@@ -132,30 +132,6 @@ pub fn size(kind: Kind) -> usize
     }
 }
 
-// Whether steps were passed, and the index behind them.
-pub struct StepsEnd {
-    pub ok: bool,
-    pub end: usize,
-}
-
-// Passes n steps, from index `at` on.
-pub fn pass_steps(file: &[u8], panel: usize, at: usize, n: usize) -> StepsEnd
-    requires { ⌜ (panel < 3) × (at ≤ length (now file)) ⌝ }
-    ensures { λ r. ⌜ StepsPassed panel n at (now (file .entry)) r ⌝ }
-{
-    let mut end = at;
-    let mut left = n;
-    while 0 < left {
-        let z = size(step_at(file, end, panel));
-        if z == 0 {
-            return StepsEnd { ok: false, end };
-        }
-        end += z;
-        left -= 1;
-    }
-    StepsEnd { ok: true, end }
-}
-
 fn is_write_to(kind: Kind, register: u8) -> bool
     ensures { λ r. ⌜ r ≡ kindWritesTo register kind ⌝ }
 {
@@ -166,22 +142,55 @@ fn is_write_to(kind: Kind, register: u8) -> bool
     }
 }
 
-// Whether a write of a register is among n steps, from index `at` on.
-fn writes_to(file: &[u8], panel: usize, at: usize, n: usize, register: u8) -> bool
+// Whether a register was written before a step, or is by it.
+fn written_so_far(before: bool, kind: Kind, register: u8) -> bool
+    ensures { λ r. ⌜ r ≡ (before || kindWritesTo register kind) ⌝ }
+{
+    if before {
+        return true;
+    }
+    is_write_to(kind, register)
+}
+
+// Whether steps were passed, the index behind them, and whether they write the channels (0x01) and the level (0x04).
+pub struct StepsEnd {
+    pub ok: bool,
+    pub end: usize,
+    pub channels: bool,
+    pub level: bool,
+}
+
+// Passes n steps, from index `at` on.
+pub fn pass_steps(file: &[u8], panel: usize, at: usize, n: usize) -> StepsEnd
     requires { ⌜ (panel < 3) × (at ≤ length (now file)) ⌝ }
-    ensures { λ r. ⌜ r ≡ writesTo register (stepsOf panel n (drop at (now (file .entry)))) ⌝ }
+    ensures { λ r. ⌜ StepsPassed panel n at (now (file .entry)) r ⌝ }
 {
     let mut end = at;
     let mut left = n;
+    let mut channels = false;
+    let mut level = false;
     while 0 < left {
         let kind = step_at(file, end, panel);
-        if is_write_to(kind, register) {
-            return true;
+        let z = size(kind);
+        if z == 0 {
+            return StepsEnd {
+                ok: false,
+                end,
+                channels,
+                level,
+            };
         }
-        end += size(kind);
+        channels = written_so_far(channels, kind, 0x01);
+        level = written_so_far(level, kind, 0x04);
+        end += z;
         left -= 1;
     }
-    false
+    StepsEnd {
+        ok: true,
+        end,
+        channels,
+        level,
+    }
 }
 
 // The panel that a file names.
@@ -192,7 +201,7 @@ pub fn panel_of(file: &[u8]) -> usize
     file[1] as usize
 }
 
-// Whether a file is accepted, and the index of its stop section.
+// Whether a file keeps the rules that were asked of it, and the index of its stop section.
 pub struct Layout {
     pub ok: bool,
     pub stop: usize,
@@ -217,8 +226,8 @@ fn head_good(file: &[u8]) -> bool
     file[2] <= 32
 }
 
-// Where the stop section of a file begins, or that a rule before it is broken.
-fn pass_start(file: &[u8]) -> StepsEnd
+// Whether the start steps keep their rules, and where the stop section begins.
+fn pass_start(file: &[u8]) -> Layout
     requires { ⌜ Readable (now file) ⌝ }
     ensures { λ r. ⌜ StartPassed (now (file .entry)) r ⌝ }
 {
@@ -226,15 +235,16 @@ fn pass_start(file: &[u8]) -> StepsEnd
     let n = file[2] as usize;
     let start = pass_steps(file, panel, 3, n);
     if !start.ok {
-        return StepsEnd { ok: false, end: 0 };
+        return Layout { ok: false, stop: 0 };
     }
-    if !writes_to(file, panel, 3, n, 0x01) {
-        return StepsEnd { ok: false, end: 0 };
+    if !start.channels {
+        return Layout { ok: false, stop: 0 };
     }
-    if !writes_to(file, panel, 3, n, 0x04) {
-        return StepsEnd { ok: false, end: 0 };
+    if !start.level {
+        return Layout { ok: false, stop: 0 };
     }
-    start
+    let stop = start.end;
+    Layout { ok: true, stop }
 }
 
 // Whether the stop steps, whose count stands at index `stop`, keep their rules, and nothing follows them.
@@ -264,7 +274,7 @@ pub fn laid_out(file: &[u8]) -> Layout
         return Layout { ok: false, stop: 0 };
     }
     let start = pass_start(file);
-    let stop = start.end;
+    let stop = start.stop;
     if !start.ok {
         return Layout { ok: false, stop: 0 };
     }

@@ -6,5 +6,3 @@ pub mod Line
 pub mod Builder
 -- A line that was handed out, read back: what it pushes each dot.
 pub mod Reading
--- Document 01's worked example of a line.
-pub mod Examples

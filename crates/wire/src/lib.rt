@@ -9,7 +9,7 @@ ghost use Rattle.lists.specs.Lists.{tabulate, overlay, overlayAt};
 ghost use Rattle.panel.specs.Codes.{codeBy};
 ghost use Rattle.panel.specs.Dots.{bit, rowDot};
 ghost use Rattle.wire.specs.Registers.{registerWrite};
-ghost use Rattle.wire.specs.Line.{evenByte, oddByte, scanByte, line, lineLength, handedLine};
+ghost use Rattle.wire.specs.Line.{packCodes, evenByte, oddByte, scanByte, line, lineLength, handedLine};
 ghost use Rattle.wire.specs.Builder.{inRange, buildLine};
 
 // Puts a register write at the front of `out`, and answers its length.
@@ -39,15 +39,25 @@ fn join(high: u8, code: u8) -> u8
     (high << 2) | code
 }
 
+// The codes of the dots at four bits of a picture byte, joined, high pair first.
+fn four_codes(byte: u8, i: u8, j: u8, k: u8, l: u8, white: u8, black: u8) -> u8
+    requires { ⌜ (i < 8) × (j < 8) × (k < 8) × (l < 8) × (white < 4) × (black < 4) ⌝ }
+    ensures { λ r. ⌜ r
+        ≡ packCodes (codeBy white black (byte / 2 ^ i % 2)) (codeBy white black (byte / 2 ^ j % 2))
+        (codeBy white black (byte / 2 ^ k % 2)) (codeBy white black (byte / 2 ^ l % 2)) ⌝ }
+{
+    let one = dot_code(byte, i, white, black);
+    let two = join(one, dot_code(byte, j, white, black));
+    let three = join(two, dot_code(byte, k, white, black));
+    join(three, dot_code(byte, l, white, black))
+}
+
 // The codes of a picture byte's even dots, first to last.
 fn even_codes(byte: u8, white: u8, black: u8) -> u8
     requires { ⌜ (white < 4) × (black < 4) ⌝ }
     ensures { λ r. ⌜ r ≡ evenByte (λ x. codeBy white black (bit byte x)) 0 ⌝ }
 {
-    let one = dot_code(byte, 7, white, black);
-    let two = join(one, dot_code(byte, 5, white, black));
-    let three = join(two, dot_code(byte, 3, white, black));
-    join(three, dot_code(byte, 1, white, black))
+    four_codes(byte, 7, 5, 3, 1, white, black)
 }
 
 // The codes of a picture byte's odd dots, last to first.
@@ -55,10 +65,7 @@ fn odd_codes(byte: u8, white: u8, black: u8) -> u8
     requires { ⌜ (white < 4) × (black < 4) ⌝ }
     ensures { λ r. ⌜ r ≡ oddByte 8 (λ x. codeBy white black (bit byte x)) 0 ⌝ }
 {
-    let one = dot_code(byte, 0, white, black);
-    let two = join(one, dot_code(byte, 2, white, black));
-    let three = join(two, dot_code(byte, 4, white, black));
-    join(three, dot_code(byte, 6, white, black))
+    four_codes(byte, 0, 2, 4, 6, white, black)
 }
 
 fn put_even(out: &mut [u8], row: &[u8], white: u8, black: u8)

@@ -1,50 +1,101 @@
--- The rows behind the header, painted over the whole picture, are the picture that the file holds.
+-- Each turn reads one row more, from the top of the picture on.
 -- Assumes nothing.
-use mathlib.Core.Path.{ap, _∙_}
-use mathlib.Core.List.{List}
-use Prim.Native.Nat.{ℕ, _-_}
+use mathlib.Core.Path.{_≡_, sym}
+use Prim.Native.Nat.{ℕ, _+_, _-_, _*_, _≤_, _<_}
+use native.Mathlib.Nat.{zero-mul}
+use native.Mathlib.Omega.{arith}
 use borrow.Author.Needs.{needs}
-use lib.ListN.{length, take, drop}
-use Rattle.picture.specs.Slots.{rawOf}
-use Rattle.picture.proofs.Slots.{painted-whole}
-use Rattle.bitmap.specs.Header.{headerLength}
-use Rattle.bitmap.proofs.Rows.{dotOf, drawn-rows}
+use lib.ListN.{length}
+use Rattle.lists.proofs.Parts.{more-rows}
+use Rattle.picture.specs.Slots.{pictureOf, rawOf}
+use Rattle.picture.proofs.Slots.{raw-picture, rows-picture}
+use Rattle.bitmap.proofs.Check.{rows-fit, file-fits}
+use Rattle.bitmap.proofs.Rows.{partRead, read-all, read-next}
 use Rattle.bitmap.proofs.read_bitmap.Statement.{statement}
 use Rattle.bitmap.proofs.read_bitmap.Tie as tie
 
-sub-paint-rows : tie.Need-sub-paint-rows
-sub-paint-rows c = search needs
+abbrev Inv-loop : tie.InvT-loop
+Inv-loop b h s file raw₀ y₀ raw y =
+    (y ≤ h) × (length raw ≡ h * b) × (raw ≡ rawOf b h (partRead b h s file (pictureOf b h raw₀) y))
 
-part-paint-rows-start : tie.Need-part-paint-rows-start
-part-paint-rows-start c = search needs
+abbrev μ-loop : tie.MeasureT-loop
+μ-loop b h s file raw₀ y₀ raw y = h - y
 
-part-paint-rows-end : tie.Need-part-paint-rows-end
-part-paint-rows-end c = search needs
+loop-holds : tie.Need-loop-holds Inv-loop μ-loop
+loop-holds c =
+    let s = c .before .before in
+    let a = s .args in (
+      omega arith,
+      s .pre .5,
+      rw zero-mul (sym (raw-picture (a .b) (a .h) (s .pre .0) (a .raw .now) (s .pre .5, λ k. c .slice-known .given k .fits))),
+    )
 
-paint-rows-requires : tie.Need-paint-rows-requires
-paint-rows-requires c κs = search needs
+sub-j : tie.Need-sub-j Inv-loop μ-loop
+sub-j c = search needs
 
-same-length : tie.Need-same-length
+sub-j-2 : tie.Need-sub-j-2 Inv-loop μ-loop
+sub-j-2 c = search needs
+
+mul-put-row : tie.Need-mul-put-row Inv-loop μ-loop
+mul-put-row c = rows-fit _ _ (omega arith) (omega arith)
+
+add-put-row : tie.Need-add-put-row Inv-loop μ-loop
+add-put-row c = file-fits 62 _ _ (omega arith) (omega arith) (omega arith)
+
+put-row-requires : tie.Need-put-row-requires Inv-loop μ-loop
+put-row-requires c κs =
+    let s = c .before .before .before .before .before in
+    let a = s .args in
+    let room : (j : ℕ) → j < a .h → 62 + j * a .s + a .b ≤ length (a .file .now) = λ j l. omega (arith, more-rows j (a .h) (a .s) l) in
+    (c .before .before .loop .inv .1, c .before .loop-test .taken, s .pre .1, s .pre .4, room _ (omega arith))
+
+add-y : tie.Need-add-y Inv-loop μ-loop
+add-y c = search needs
+
+loop-less : tie.Need-loop-less Inv-loop μ-loop
+loop-less c = search needs
+
+loop-again : tie.Need-loop-again Inv-loop μ-loop
+loop-again c =
+    let c₁ = c .before .before .before .before in
+    let l = c₁ .before .loop in
+    let s = c₁ .before .before .before .before in
+    let a = s .args in
+    let known = c₁ .before .before in
+    let rows = rows-picture (a .b) (a .h) (s .pre .0) (a .raw .now) (s .pre .5, λ k. known .slice-known .given k .fits) in (
+      omega arith,
+      search needs,
+      read-next (a .b) (a .h) (a .s) (s .pre .0) (s .pre .2) (a .file .now) (λ k. known .before .shared-slice-known .given k .fits)
+          (pictureOf (a .b) (a .h) (a .raw .now)) rows (s .pre .6) (l .y) (c₁ .loop-test .taken) (l .inv .2) (c .before .before .put-row .ensures),
+    )
+
+same-length : tie.Need-same-length Inv-loop μ-loop
 same-length c = search needs
 
-returns : tie.Need-returns
+returns : tie.Need-returns Inv-loop μ-loop
 returns c =
-    let s = c .before .before .before .before .before .before .before in
+    let l = c .before .loop in
+    let known = c .before .before in
+    let s = known .before .before in
     let a = s .args in
-    let file = a .file .now in
-    let rows : List ℕ = take (length file - headerLength) (drop headerLength file) in
-    let bytes = c .before .before .before .before .before .before .shared-slice-known .given in
-    c .before .before .paint-rows .ensures
-    ∙ painted-whole (a .b) (a .h) (s .pre .0) (a .raw .now) (dotOf (a .h) (a .s) rows)
-    ∙ ap (rawOf (a .b) (a .h)) (drawn-rows (a .b) (a .h) (a .s) (s .pre .0) (s .pre .2) file (λ k. bytes k .fits) (s .pre .6))
+    let rows = rows-picture (a .b) (a .h) (s .pre .0) (a .raw .now) (s .pre .5, λ k. known .slice-known .given k .fits) in
+    let e : l .y ≡ a .h = omega arith in
+    rw (e, read-all (a .b) (a .h) (a .s) (a .file .now) (pictureOf (a .b) (a .h) (a .raw .now)) (rows .0)) at (l .inv .2)
 
 pub read-bitmap-spec : {M : Type 1} → statement M
 read-bitmap-spec =
     tie.close
     (tie.spec
-    sub-paint-rows
-    part-paint-rows-start
-    part-paint-rows-end
-    paint-rows-requires
+    Inv-loop
+    μ-loop
+    loop-holds
+    sub-j
+    sub-j-2
+    mul-put-row
+    add-put-row
+    put-row-requires
+    add-y
+    loop-less
+    loop-again
     same-length
     returns)

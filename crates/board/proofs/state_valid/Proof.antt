@@ -1,10 +1,10 @@
 -- `state_valid`, rule by rule.
 -- Assumes nothing.
-use mathlib.Core.Path.{sym, _∙_}
+use mathlib.Core.Path.{sym}
 use denote.Ref.{now}
 use borrow.Author.Tests.{lt-leb, not-false}
 use lib.Seq.{length-take-le}
-use Rattle.lists.proofs.Rules.{refused, passed}
+use Rattle.lists.proofs.Rules.{refused}
 use Rattle.board.specs.Facts.{stateOf}
 use Rattle.board.proofs.Guard.{state-broken, state-last}
 use borrow.Author.Needs.{needs}
@@ -38,16 +38,13 @@ returns-4 c =
     state-broken 3 (stateOf (now (a .file)) (a .len) (a .slots) (a .phase)) (lt-leb _ _ (c .if4 .taken))
 
 phase-valid-requires : tie.Need-phase-valid-requires
-phase-valid-requires c κs =
-    let layout = c .before .before .before .before .laid-out .ensures in
-    let stop = layout .stop (not-false _ (c .before .before .if2 .left)) in
-    record { good = stop .good; within = stop .within; rest = stop .rest }
+phase-valid-requires c κs = c .before .before .before .before .laid-out .ensures .stop (not-false _ (c .before .before .if2 .left))
 
 returns-5 : tie.Need-returns-5
 returns-5 c =
     let a = c .before .before .before .before .before .before .before .before .before .args in
-    c .phase-valid .ensures
-    ∙ state-last (stateOf (now (a .file)) (a .len) (a .slots) (a .phase)) (c .before .before .before .before .before .before .before .if1 .left) (passed (c .before .before .before .before .before .laid-out .ensures .good) (c .before .before .before .if2 .left)) (c .before .before .if3 .left) (c .before .if4 .left)
+    state-last (stateOf (now (a .file)) (a .len) (a .slots) (a .phase)) (c .before .before .before .before .before .before .before .if1 .left) (c .before .before .if3 .left) (c .before .if4 .left)
+    (c .before .before .before .before .before .laid-out .ensures .stop (not-false _ (c .before .before .before .if2 .left))) (c .phase-valid .ensures)
 
 pub state-valid-spec : {M : Type 1} → statement M
 state-valid-spec =

@@ -1,23 +1,34 @@
-use mathlib.Core.Path.{refl, sym}
+-- `data_length` meets its contract, case by case. Assumes nothing.
+use mathlib.Core.Path.{_≡_, sym}
 use native.Mathlib.Omega.{arith}
-use borrow.Author.Needs.{needs}
 use Rattle.panel.specs.Registers.{dataLength}
-use Rattle.panel.proofs.Registers.{data-length-le, no-register}
+use Rattle.panel.proofs.Registers.{one-byte, no-register}
 use Rattle.panel.proofs.data_length.Statement.{statement}
 use Rattle.panel.proofs.data_length.Tie as tie
 
 returns : tie.Need-returns
-returns c = (sym (no-register (c .before .args .register) (c .if1 .taken)), omega arith)
-
-mul-result : tie.Need-mul-result
-mul-result c = search needs
-
-array-read-result : tie.Need-array-read-result
-array-read-result c = search needs
+unfolding dataLength
+returns c =
+    let e : c .before .args .register ≡ 1 = omega arith in
+    (rw e, omega arith)
 
 returns-2 : tie.Need-returns-2
 unfolding dataLength
-returns-2 c = (refl, data-length-le (c .before .args .register))
+returns-2 c =
+    let e : c .before .args .register ≡ 9 = omega arith in
+    (rw e, omega arith)
+
+returns-3 : tie.Need-returns-3
+returns-3 c = (one-byte (c .before .before .before .args .register) (omega arith) (omega arith), omega arith)
+
+returns-4 : tie.Need-returns-4
+unfolding dataLength
+returns-4 c =
+    let e : c .before .before .args .register ≡ 0 = omega arith in
+    (rw e, omega arith)
+
+returns-5 : tie.Need-returns-5
+returns-5 c = (sym (no-register (c .before .before .before .args .register) (omega arith)), omega arith)
 
 pub data-length-spec : {M : Type 1} → statement M
-data-length-spec = tie.close (tie.spec returns mul-result array-read-result returns-2)
+data-length-spec = tie.close (tie.spec returns returns-2 returns-3 returns-4 returns-5)

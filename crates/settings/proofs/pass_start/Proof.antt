@@ -1,9 +1,8 @@
 -- `pass_start` meets its contract: each rule of the start steps is one branch. Assumes nothing.
-use mathlib.Core.Path.{sym, _∙_}
 use native.Mathlib.Omega.{arith}
-use denote.Ref.{now}
-use borrow.Author.Tests.{not-true, not-false}
+use borrow.Author.Tests.{not-false}
 use borrow.Author.Needs.{needs}
+use Rattle.lists.proofs.Rules.{refused}
 use Rattle.settings.proofs.Sections.{start-refused, start-passed}
 use Rattle.settings.proofs.pass_start.Statement.{statement}
 use Rattle.settings.proofs.pass_start.Tie as tie
@@ -22,39 +21,26 @@ pass-steps-requires c κs = search needs
 
 returns : tie.Need-returns
 returns c =
-    let file = now (c .before .before .before .before .before .before .args .file) in
     let passed = rw (c .before .before .before .before .panel-of .ensures) at (c .before .before .pass-steps .ensures) in
-    start-refused 0 file (sym (passed .good) ∙ not-true _ (c .if1 .taken))
-
-writes-to-requires : tie.Need-writes-to-requires
-writes-to-requires c κs = search needs
+    start-refused 0 (refused (passed .good) (c .if1 .taken))
 
 returns-2 : tie.Need-returns-2
 returns-2 c =
-    let file = now (c .before .before .before .before .before .before .before .before .args .file) in
-    let one = rw (c .before .before .before .before .before .before .panel-of .ensures) at (c .before .writes-to .ensures) in
-    start-refused 1 file (sym one ∙ not-true _ (c .if2 .taken))
-
-writes-to-requires-2 : tie.Need-writes-to-requires-2
-writes-to-requires-2 c κs = search needs
+    let passed = rw (c .before .before .before .before .before .before .panel-of .ensures) at (c .before .before .before .before .pass-steps .ensures) in
+    let ok = not-false _ (c .before .before .if1 .left) in
+    start-refused 1 (refused (passed .channels ok) (c .if2 .taken))
 
 returns-3 : tie.Need-returns-3
 returns-3 c =
-    let file = now (c .before .before .before .before .before .before .before .before .before .before .args .file) in
-    let four = rw (c .before .before .before .before .before .before .before .before .panel-of .ensures) at (c .before .writes-to2 .ensures) in
-    start-refused 2 file (sym four ∙ not-true _ (c .if3 .taken))
+    let passed = rw (c .before .before .before .before .before .before .before .before .panel-of .ensures) at (c .before .before .before .before .before .before .pass-steps .ensures) in
+    let ok = not-false _ (c .before .before .before .before .if1 .left) in
+    start-refused 2 (refused (passed .level ok) (c .if3 .taken))
 
 returns-4 : tie.Need-returns-4
 returns-4 c =
-    let file = now (c .before .before .before .before .before .before .before .before .before .before .args .file) in
-    let panel = c .before .before .before .before .before .before .before .before .panel-of .ensures in
-    let passed = rw panel at (c .before .before .before .before .before .before .pass-steps .ensures) in
-    let one = rw panel at (c .before .before .before .writes-to .ensures) in
-    let four = rw panel at (c .before .writes-to2 .ensures) in
-    start-passed file (c .before .before .before .before .before .before .pass-steps .result) passed
-    (not-false _ (c .before .before .before .before .if1 .left))
-    (sym one ∙ not-false _ (c .before .before .if2 .left))
-    (sym four ∙ not-false _ (c .if3 .left))
+    let passed = rw (c .before .before .before .before .before .before .before .before .panel-of .ensures) at (c .before .before .before .before .before .before .pass-steps .ensures) in
+    let ok = not-false _ (c .before .before .before .before .if1 .left) in
+    start-passed passed ok (not-false _ (c .before .before .if2 .left)) (not-false _ (c .if3 .left))
 
 pub pass-start-spec : {M : Type 1} → statement M
 pass-start-spec =
@@ -65,8 +51,6 @@ pass-start-spec =
     cast-n
     pass-steps-requires
     returns
-    writes-to-requires
     returns-2
-    writes-to-requires-2
     returns-3
     returns-4)

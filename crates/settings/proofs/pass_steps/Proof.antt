@@ -1,27 +1,31 @@
 -- `pass_steps` meets its contract. The loop's invariant: the steps that are left, from `end` on, are good, and leave the
--- same rest, just when all n do. Assumes nothing.
+-- same rest, just when all n do; the channels, and the level, are written so far or among the steps that are left just when
+-- they are among all n. Assumes nothing.
 use mathlib.Core.Path.{_≡_, refl, sym, ap, _∙_}
+use mathlib.Core.Bool.{_||_, or-false, false≢true}
 use Prim.Native.Nat.{_≤_}
 use native.Mathlib.Omega.{arith}
 use lib.ListN.{length, drop}
 use denote.Ref.{now}
 use borrow.Author.Needs.{needs}
-use Rattle.settings.specs.Settings.{stepsOf, restOf, allSteps}
-use Rattle.settings.proofs.Steps.{Turn, next-fits, next-rest, next-all, stuck-all, stuck-rest}
+use Rattle.settings.specs.Settings.{stepsOf, restOf, allSteps, writesTo}
+use Rattle.settings.proofs.Steps.{Turn, next-fits, next-rest, next-all, next-writes, stuck-all, stuck-rest}
 use Rattle.settings.proofs.pass_steps.Statement.{statement}
 use Rattle.settings.proofs.pass_steps.Tie as tie
 
 abbrev Inv-loop : tie.InvT-loop
-Inv-loop file panel at n end₀ left₀ end left =
+Inv-loop file panel at n end₀ left₀ channels₀ level₀ end left channels level =
     (end ≤ length file)
     × (allSteps (stepsOf panel left (drop end file)) ≡ allSteps (stepsOf panel n (drop at file)))
     × (restOf panel left (drop end file) ≡ restOf panel n (drop at file))
+    × ((channels || writesTo 0x01 (stepsOf panel left (drop end file))) ≡ writesTo 0x01 (stepsOf panel n (drop at file)))
+    × ((level || writesTo 0x04 (stepsOf panel left (drop end file))) ≡ writesTo 0x04 (stepsOf panel n (drop at file)))
 
 abbrev μ-loop : tie.MeasureT-loop
-μ-loop file panel at n end₀ left₀ end left = left
+μ-loop file panel at n end₀ left₀ channels₀ level₀ end left channels level = left
 
 loop-holds : tie.Need-loop-holds Inv-loop μ-loop
-loop-holds c = (c .before .pre .1, refl, refl)
+loop-holds c = (c .before .pre .1, refl, refl, refl, refl)
 
 step-at-requires : tie.Need-step-at-requires Inv-loop μ-loop
 step-at-requires c κs = (c .before .before .before .pre .0, c .before .loop .inv .0)
@@ -38,13 +42,21 @@ returns c =
       good = sym (stuck-all turn (c .if1 .taken)) ∙ l .inv .1;
       within = l .inv .0;
       rest = sym (stuck-rest turn (c .if1 .taken)) ∙ l .inv .2;
+      channels = λ t. absurd (false≢true t);
+      level = λ t. absurd (false≢true t);
     }
+
+written-so-far-requires : tie.Need-written-so-far-requires Inv-loop μ-loop
+written-so-far-requires c κs = tt
+
+written-so-far-requires-2 : tie.Need-written-so-far-requires-2 Inv-loop μ-loop
+written-so-far-requires-2 c κs = tt
 
 add-end : tie.Need-add-end Inv-loop μ-loop
 add-end c =
-    let a = c .before .before .before .before .before .before .args in
-    let l = c .before .before .before .before .loop in
-    let turn : Turn (a .panel) (now (a .file)) (l .end) (l .left) (c .before .before .step-at .result) (c .before .size .result) = search needs in
+    let a = c .before .before .before .before .before .before .before .before .args in
+    let l = c .before .before .before .before .before .before .loop in
+    let turn : Turn (a .panel) (now (a .file)) (l .end) (l .left) (c .before .before .before .before .step-at .result) (c .before .before .before .size .result) = search needs in
     omega (arith, next-fits turn (l .inv .0))
 
 sub-left : tie.Need-sub-left Inv-loop μ-loop
@@ -55,10 +67,15 @@ loop-less c = omega arith
 
 loop-again : tie.Need-loop-again Inv-loop μ-loop
 loop-again c =
-    let a = c .before .before .before .before .before .before .args in
-    let l = c .before .before .before .before .loop in
-    let turn : Turn (a .panel) (now (a .file)) (l .end) (l .left) (c .before .before .step-at .result) (c .before .size .result) = search needs in
-    (next-fits turn (l .inv .0), sym (next-all turn (c .if1 .left)) ∙ l .inv .1, sym (next-rest turn) ∙ l .inv .2)
+    let a = c .before .before .before .before .before .before .before .before .args in
+    let l = c .before .before .before .before .before .before .loop in
+    let turn : Turn (a .panel) (now (a .file)) (l .end) (l .left) (c .before .before .before .before .step-at .result) (c .before .before .before .size .result) = search needs in (
+      next-fits turn (l .inv .0),
+      sym (next-all turn (c .before .before .if1 .left)) ∙ l .inv .1,
+      sym (next-rest turn) ∙ l .inv .2,
+      next-writes turn 0x01 (l .channels) (c .before .written-so-far .ensures) ∙ l .inv .3,
+      next-writes turn 0x04 (l .level) (c .written-so-far2 .ensures) ∙ l .inv .4,
+    )
 
 returns-2 : tie.Need-returns-2 Inv-loop μ-loop
 returns-2 c =
@@ -70,6 +87,8 @@ returns-2 c =
       good = ap (λ n. allSteps (stepsOf (a .panel) n s)) e ∙ l .inv .1;
       within = l .inv .0;
       rest = ap (λ n. restOf (a .panel) n s) e ∙ l .inv .2;
+      channels = λ t. sym (or-false _) ∙ ap (λ n. l .channels || writesTo 0x01 (stepsOf (a .panel) n s)) e ∙ l .inv .3;
+      level = λ t. sym (or-false _) ∙ ap (λ n. l .level || writesTo 0x04 (stepsOf (a .panel) n s)) e ∙ l .inv .4;
     }
 
 pub pass-steps-spec : {M : Type 1} → statement M
@@ -82,6 +101,8 @@ pass-steps-spec =
     step-at-requires
     size-requires
     returns
+    written-so-far-requires
+    written-so-far-requires-2
     add-end
     sub-left
     loop-less

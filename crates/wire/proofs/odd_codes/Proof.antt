@@ -1,53 +1,16 @@
--- The codes in the order of `oddByte`, each joined at the low end.
+-- The bits of the odd dots, in the order of `oddByte`.
 -- Assumes nothing.
 use borrow.Author.Needs.{needs}
 use Rattle.wire.specs.Line.{oddByte}
-use Rattle.wire.proofs.Bytes.{joined}
 use Rattle.wire.proofs.odd_codes.Statement.{statement}
 use Rattle.wire.proofs.odd_codes.Tie as tie
 
-dot-code-requires : tie.Need-dot-code-requires
-dot-code-requires c κs = search needs
-
-dot-code-requires-2 : tie.Need-dot-code-requires-2
-dot-code-requires-2 c κs = search needs
-
-join-requires : tie.Need-join-requires
-join-requires c κs = search needs
-
-dot-code-requires-3 : tie.Need-dot-code-requires-3
-dot-code-requires-3 c κs = search needs
-
-join-requires-2 : tie.Need-join-requires-2
-join-requires-2 c κs = search needs
-
-dot-code-requires-4 : tie.Need-dot-code-requires-4
-dot-code-requires-4 c κs = search needs
-
-join-requires-3 : tie.Need-join-requires-3
-join-requires-3 c κs = search needs
+four-codes-requires : tie.Need-four-codes-requires
+four-codes-requires c κs = search needs
 
 returns : tie.Need-returns
 unfolding oddByte
-returns c =
-    joined
-    (c .before .before .before .before .before .before .dot-code .ensures .0)
-    (c .before .before .before .before .before .dot-code2 .ensures .0)
-    (c .before .before .before .before .join .ensures)
-    (c .before .before .before .dot-code3 .ensures .0)
-    (c .before .before .join2 .ensures)
-    (c .before .dot-code4 .ensures .0)
-    (c .join3 .ensures)
+returns c = c .four-codes .ensures
 
 pub odd-codes-spec : {M : Type 1} → statement M
-odd-codes-spec =
-    tie.close
-    (tie.spec
-    dot-code-requires
-    dot-code-requires-2
-    join-requires
-    dot-code-requires-3
-    join-requires-2
-    dot-code-requires-4
-    join-requires-3
-    returns)
+odd-codes-spec = tie.close (tie.spec four-codes-requires returns)

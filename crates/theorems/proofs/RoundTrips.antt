@@ -4,64 +4,36 @@
 use mathlib.Core.Path.{_≡_, refl, ap, _∙_}
 use mathlib.Core.Bool.{false, not}
 use mathlib.Core.List.{List, _++_}
-use Prim.Native.Nat.{ℕ, _+_, _-_, _*_, _/_, _%_, _≤_, _<_}
-use native.Mathlib.Decide.{decLt}
+use Prim.Native.Nat.{ℕ, _+_, _*_, _≤_, _<_}
 use native.Mathlib.Omega.{arith}
 use borrow.Author.Tests.{not-false, leb-true, ltb-false, le-leb, le-ltb, eqb-false}
 use lib.Dec.{eqb, leb}
-use lib.ListN.{length, getD, take, drop, length-take, List·getD-eq-default}
-use lib.Seq.{getD-take, getD-drop}
+use lib.ListN.{length, take, drop}
 use Rattle.lists.specs.Lists.{overlay}
-use Rattle.lists.proofs.Lists.{getD-tabulate, take-overlay}
+use Rattle.lists.proofs.Lists.{take-overlay}
 use Rattle.lists.proofs.Parts.{more-rows, part-length}
 use Rattle.lists.proofs.Rules.{None, and-right, taken, by-cases}
 use Rattle.lists.proofs.Rules as rules
+use Rattle.settings.specs.Settings.{rowBytesIn, rowsIn, strideIn}
 use Rattle.picture.specs.Slots.{slotBytes, withBytes, slotPicture, withPicture}
-use Rattle.picture.proofs.Pictures.{Bytes}
+use Rattle.picture.proofs.Pictures.{Bytes, bytes-take, bytes-drop}
 use Rattle.picture.proofs.Slots.{Rows, raw-picture, rows-picture, with-own, length-with-picture, picture-same}
-use Rattle.bitmap.specs.Header.{headerLength, fileLength}
+use Rattle.bitmap.specs.Header.{fileLength}
 use Rattle.bitmap.specs.Bitmap.{bitmapGood, readPicture, writtenFile, normalForm}
-use Rattle.bitmap.proofs.RoundTrip.{length-file, length-read, read-written, write-read, read-normal, good-written}
-use Rattle.poll.specs.HandOut.{rowBytesIn, rowsIn}
+use Rattle.bitmap.proofs.RoundTrip.{length-file, rows-read, read-written, write-read, read-normal, good-written}
 use Rattle.board.specs.State.{fileOf, storeBytes}
-use Rattle.board.specs.Calls.{isRunsSlot, takesPictures, strideIn, reply, uploadCases, bitmapCases, bitmapUpload, writeCases, bitmapWrite}
+use Rattle.board.specs.Calls.{isRunsSlot, takesPictures, reply, uploadCases, bitmapCases, bitmapUpload, writeCases, bitmapWrite}
 use Rattle.board.specs.declared.State.{State}
 use Rattle.board.specs.declared.Reply.{Reply}
 use Rattle.board.proofs.Cases.{by-bitmap}
 use Rattle.board.proofs.Stores.{passed, size-in}
-
--- ---- bytes stay bytes
-
--- beyond a list there is 0, which is a byte
-bytes-where : (l : List ℕ) → ((k : ℕ) → k < length l → getD l k 0 < 256) → Bytes l
-bytes-where l e k =
-    elim (decLt k (length l)) [
-      | yes q ↦ e k q
-      | no q ↦ rw (List·getD-eq-default l 0 {n = k} (omega arith)) (omega arith)
-    ]
-
-bytes-part : (n at : ℕ) (l : List ℕ) → Bytes l → Bytes (take n (drop at l))
-bytes-part n at l bytes =
-    bytes-where (take n (drop at l))
-    (λ k q.
-    let low : k < n = omega (arith, length-take n (drop at l)) in
-    rw (getD-take n (drop at l) k 0 low, getD-drop at l k 0) (bytes (at + k)))
-
-bytes-read : (b h s : ℕ) (file : List ℕ) → Bytes file → Bytes (readPicture b h s file)
-unfolding readPicture
-bytes-read b h s file bytes =
-    bytes-where (readPicture b h s file)
-    (λ k q.
-    let low : k < h * b = rw (length-read b h s file) at q in
-    rw (getD-tabulate (h * b) (λ i. getD file (headerLength + ((h - 1 - i / b) * s + i % b)) 0) k 0 low)
-    (bytes (headerLength + ((h - 1 - k / b) * s + k % b))))
 
 -- ---- a picture through a slot
 
 module _ (b h : ℕ) (some : 0 < b) (memory : List ℕ) (slot : ℕ) (fits : slot * (h * b) + h * b ≤ length memory) (bytes : Bytes memory) where
   rows-slot : Rows b h (slotBytes b h memory slot)
   unfolding slotBytes
-  rows-slot = (part-length (slot * (h * b)) (h * b) memory fits, bytes-part (h * b) (slot * (h * b)) memory bytes)
+  rows-slot = (part-length (slot * (h * b)) (h * b) memory fits, bytes-take (h * b) (drop (slot * (h * b)) memory) (bytes-drop (slot * (h * b)) memory bytes))
 
   rows-picture-of : Rows b h (slotPicture b h memory slot)
   unfolding slotPicture
@@ -130,7 +102,7 @@ module _ (state : State) where
             let size = size-in (fileOf state) (ok .good) in
             let high : slot ≤ state .slots = leb-true _ _ (and-right (leb 1 slot) (leb slot (state .slots)) (not-false _ takes)) in
             let fits = slot-fits memory slot (ok .exact) high in
-            let rows : Rows b h picture = (length-read b h s file, bytes-read b h s file bytes) in
+            let rows : Rows b h picture = rows-read b h s file bytes in
             let same : length after ≡ length memory = length-with-picture b h memory slot fits (size .some) picture rows in
             let sized : not (eqb (length after) (storeBytes (fileOf state) (state .slots))) ≡ false = rw same exact in
             writes after slot out

@@ -1,14 +1,15 @@
 -- How the events of a list of calls go through the things of a run: each hands out the first of those to come, or none of them.
 -- Assumes nothing.
-use Prim.Native.Nat.{ℕ}
+use Prim.Native.Nat.{ℕ, _+_}
 use mathlib.Core.Path.{_≡_}
-use mathlib.Core.Bool.{Bool, true, false, not, _&&_}
+use mathlib.Core.Bool.{Bool, true, false, cond, not, _&&_}
 use mathlib.Core.List.{List, [], _∷_}
+use Rattle.poll.specs.HandOut.{Outcome, outcome}
 use Rattle.poll.specs.declared.Answer.{Answer}
 use Rattle.poll.specs.declared.Answer.the-variants as answer
 use Rattle.board.specs.History.{Call, uploadRegion, uploadBitmap, start, poll, abandon, writeBitmap, Given, number, answered, isAccepted, Event, event, callOn}
-use Rattle.board.specs.Order.{Thing, thingBytes, thingAnswer}
+use Rattle.theorems.specs.Order.{Thing, thingBytes, thingAnswer}
 use Rattle.board.specs.declared.State.{State}
 
 -- something was handed out
 abbrev pub isHandOut : Answer → Bool
@@ -52,3 +53,12 @@ noTurns (e ∷ es) = not (turns e) && noTurns es
 abbrev pub stateAfter : (state : State) (memory : List ℕ) → List Call → State
 stateAfter state memory [] = state
 stateAfter state memory (call ∷ calls) = stateAfter (callOn state memory call .state) (callOn state memory call .memory) calls
+
+-- how many of the events handed something out
+abbrev pub handOuts : List Event → ℕ
+handOuts [] = 0
+handOuts (event call memory given put ∷ es) = cond (handsOut given) 1 0 + handOuts es
+
+-- what a poll of a run answered
+abbrev pub answerIn : Outcome → Answer
+answerIn (outcome answer phase memory out) = answer

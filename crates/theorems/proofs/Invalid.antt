@@ -8,11 +8,11 @@ use Prim.Native.Nat.{ℕ}
 use lib.Dec.{eqb}
 use Rattle.lists.proofs.Rules.{broken}
 use Rattle.poll.specs.Answers.{answerNumber}
 use Rattle.board.specs.State.{stateRules, stateValid, emptyState}
 use Rattle.board.specs.Calls.{regionUpload, bitmapUpload, starting, abandoning, polled, bitmapWrite}
 use Rattle.board.specs.History.{Call, uploadRegion, uploadBitmap, start, poll, abandon, writeBitmap, Given, number, answered, isAccepted, callOn}
 use Rattle.board.specs.declared.State.{State}
-use Rattle.board.proofs.Refusals.{givenBy}
+use Rattle.theorems.proofs.Refusals.{givenBy}
 
 -- the number of what a call gave back
 abbrev pub numberGiven : Given → ℕ

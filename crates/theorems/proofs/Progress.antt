@@ -26,15 +26,15 @@ use Rattle.poll.specs.declared.Answer.{Answer}
 use Rattle.poll.specs.declared.Answer.the-variants as answer
 use Rattle.poll.specs.declared.Phase.{Phase}
 use Rattle.poll.specs.declared.Phase.the-variants.{Idle, Abandoned, Running}
 use Rattle.board.specs.State.{fileOf, stateValid}
 use Rattle.board.specs.Calls.{polling, inState, pollPhase, starting}
 use Rattle.board.specs.History.{Call, uploadRegion, uploadBitmap, start, poll, abandon, writeBitmap, answered, event, Called, ofReply, ofPoll, callOn, eventsOf}
-use Rattle.board.specs.Order.{Thing, aWrite, aLine, theEnd, thingsOfRun, thingsIn, thingBytes, thingAnswer, HandsFirst, InOrder}
-use Rattle.board.specs.Progress.{Goes, nothing, hands, AllGo, none, more, turns, noTurns, stateAfter}
+use Rattle.theorems.specs.Order.{Thing, aWrite, aLine, theEnd, thingsOfRun, thingsIn, thingBytes, thingAnswer, HandsFirst, InOrder}
+use Rattle.theorems.specs.Progress.{Goes, nothing, hands, AllGo, none, more, turns, noTurns, stateAfter}
 use Rattle.board.specs.declared.State.{State}
 use Rattle.board.proofs.Cases.{by-region, by-bitmap, by-start, by-abandon, by-write, by-poll, by-run}
-use Rattle.board.proofs.Kept.{stays-valid, valid-kept, file-good, phase-good}
-use Rattle.board.proofs.Order.{in-order}
+use Rattle.theorems.proofs.Kept.{stays-valid, valid-kept, file-good, phase-good}
+use Rattle.theorems.proofs.Order.{in-order}
 
 -- a run under way shows this slot
 abbrev runsOn : Phase → (slot : ℕ) → Bool

@@ -6,11 +6,11 @@ use mathlib.Core.Path.{_≡_}
 use mathlib.Core.List.{List, [], _∷_, _++_}
 use lib.ListN.{length, drop}
 use Rattle.lists.specs.Lists.{overlay}
-use Rattle.settings.specs.Settings.{Step, write, wait, malformed, startSteps, stopSteps}
+use Rattle.settings.specs.Settings.{Step, write, wait, malformed, startSteps, stopSteps, rowsIn}
 use Rattle.run.specs.Due.{runFrames}
 use Rattle.run.specs.declared.Position.{Position}
 use Rattle.run.specs.declared.Position.the-variants.{Start, Line, Stop}
-use Rattle.poll.specs.HandOut.{Outcome, outcome, rowsIn, stepBytes, lineBytes}
+use Rattle.poll.specs.HandOut.{Outcome, outcome, stepBytes, lineBytes}
 use Rattle.poll.specs.declared.Answer.{Answer}
 use Rattle.poll.specs.declared.Answer.the-variants as answer
 use Rattle.poll.specs.declared.Phase.{Phase}

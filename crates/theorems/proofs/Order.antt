@@ -7,7 +7,7 @@ use mathlib.Core.List.{List, [], _∷_, _++_}
 use Prim.Native.Nat.{ℕ, _+_, _-_, _<_}
 use native.Mathlib.Omega.{arith}
 use lib.ListN.{drop}
-use Rattle.settings.specs.Settings.{Step, panelOf, startSteps, stopSteps, settingsGood}
+use Rattle.settings.specs.Settings.{Step, panelOf, startSteps, stopSteps, settingsGood, rowsIn}
 use Rattle.settings.specs.Steps.{fromWrite}
 use Rattle.settings.proofs.Accepted.{good-panel, length-starts, length-stops}
 use Rattle.settings.proofs.Steps.{all-from}
@@ -21,15 +21,11 @@ use Rattle.run.specs.declared.Run.{Run}
 use Rattle.run.proofs.Place.{frames-some, rows-some}
 use Rattle.run.proofs.Valid.{valid-line}
 use Rattle.run.proofs.Writes.{all-starts, all-stops}
-use Rattle.poll.specs.HandOut.{Outcome, rowsIn, handStart, handStop, handOut}
+use Rattle.poll.specs.HandOut.{Outcome, handStart, handStop, handOut}
 use Rattle.poll.specs.Poll.{pollRun}
-use Rattle.board.specs.Order.{Thing, aWrite, aLine, theEnd, writesOf, stagesFrom, thingsOfRun, thingsFrom, InOrder}
+use Rattle.theorems.specs.Order.{Thing, aWrite, aLine, theEnd, writesOf, stagesFrom, thingsFrom, InOrder}
 use Rattle.board.proofs.Cases.{by-run}
-use Rattle.board.proofs.Things.{writes-from, first-write, behind-write, lines-begin, line-first}
-
--- at its start, all of a run is to come
-pub from-start : (file : List ℕ) → thingsFrom file (Start 0) ≡ thingsOfRun file
-from-start file = refl
+use Rattle.theorems.proofs.Things.{writes-from, first-write, behind-write, lines-begin, line-first}
 
 -- ---- a poll of a run under way
 

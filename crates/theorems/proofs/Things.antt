@@ -9,14 +9,13 @@ use native.Mathlib.Nat.{sub-zero}
 use native.Mathlib.Omega.{arith}
 use lib.ListN.{length, take, drop, length-append, take-append-drop}
 use lib.Seq.{drop-at}
-use Rattle.settings.specs.Settings.{Step, write, wait, malformed, allSteps, stopSteps}
+use Rattle.settings.specs.Settings.{Step, write, wait, malformed, allSteps, stopSteps, rowsIn}
 use Rattle.settings.specs.Steps.{fromWrite}
 use Rattle.run.specs.Due.{runFrames}
 use Rattle.run.specs.Place.{nextPosition}
 use Rattle.run.specs.declared.Position.the-variants.{Line}
 use Rattle.run.proofs.Place.{next-row, next-frame, next-stage, next-stop}
-use Rattle.poll.specs.HandOut.{rowsIn}
-use Rattle.board.specs.Order.{Thing, aWrite, aLine, theEnd, writesOf, rowsFrom, framesFrom, stagesFrom, thingsFrom}
+use Rattle.theorems.specs.Order.{Thing, aWrite, aLine, theEnd, writesOf, rowsFrom, framesFrom, stagesFrom, thingsFrom}
 
 -- ---- writes
 

@@ -29,15 +29,15 @@ use Rattle.poll.specs.Poll.{pollAt, pollCases, pollRun}
 use Rattle.poll.specs.declared.Answer.the-variants.{Refused}
 use Rattle.poll.specs.declared.Phase.{Phase}
 use Rattle.poll.specs.declared.Phase.the-variants.{Idle, Abandoned, Running}
 use Rattle.board.specs.State.{fileOf, withPhase, phaseValid, stateRules, stateValid, storeBytes, openedState}
 use Rattle.board.specs.Calls.{Polling, polling, inState, pollPhase, opening, polled, openCases, startCases}
 use Rattle.board.specs.History.{Call, uploadRegion, uploadBitmap, start, poll, abandon, writeBitmap, isAccepted, ofPoll, callOn}
-use Rattle.board.specs.Progress.{stateAfter}
+use Rattle.theorems.specs.Progress.{stateAfter}
 use Rattle.board.specs.declared.State.{State}
 use Rattle.board.proofs.Cases.{by-opening, by-region, by-bitmap, by-start, by-abandon, by-write, by-poll}
 use Rattle.board.proofs.Opening.{opened-file}
-use Rattle.board.proofs.Refusals.{givenBy}
-use Rattle.board.proofs.Invalid.{was-valid}
+use Rattle.theorems.proofs.Refusals.{givenBy}
+use Rattle.theorems.proofs.Invalid.{was-valid}
 
 -- ---- polls
 

@@ -1,0 +1,13 @@
+-- A refused call changes nothing; a state that breaks a condition earns 13 in every call; an accepted call leaves a state free of 13.
+pub mod Refusals
+pub mod Invalid
+pub mod Kept
+-- Bitmaps through the calls: written files read back, read files are written in normal form.
+pub mod RoundTrips
+-- Polls hand out exactly the things of a run, in order, and come to its end.
+pub mod Things
+pub mod Order
+pub mod Progress
+pub mod Ends
+-- Document 01's table of sums checked by hand.
+pub mod Worked
