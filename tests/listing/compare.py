@@ -1,18 +1,16 @@
 """Compares the program that lists a settings file with reference.py.
 
-Usage, from the repository's root: python3 tests/listing/compare.py target/bin/settings_list
+Usage, from the repository's root: python3 -m tests.listing.compare target/bin/settings_list
 """
 import pathlib
 import random
 import re
 import sys
 
-sys.dont_write_bytecode = True
-HERE = pathlib.Path(__file__).resolve().parent
-sys.path.insert(0, str(HERE.parent))
-from program import Comparison, path_argument  # noqa: E402
-from reference import DATA_LENGTH, PANELS, REFUSED, listing  # noqa: E402
+from tests.listing.reference import DATA_LENGTH, PANELS, REFUSED, listing
+from tests.program import Comparison, path_argument
 
+LIMITS = pathlib.Path(__file__).resolve().parent.parent / "limits.inc"
 MEGABYTE = 1 << 20
 LONGEST_FILE = 637
 
@@ -116,7 +114,7 @@ def longest_listing():
 
 def limit_files():
     """The table of limits.inc for each panel: name, file, whether it is good."""
-    text = (HERE.parent / "limits.inc").read_text(encoding="ascii")
+    text = LIMITS.read_text(encoding="ascii")
     rows = re.findall(r'^LIMIT\((\d), "([^"]*)", "([^"]*)"\)$', text, re.MULTILINE)
     if len(rows) != text.count("\nLIMIT("):
         sys.exit("limits.inc has a line of another form")
@@ -150,87 +148,95 @@ def from_tokens(tokens, panel):
     return file
 
 
-def main():
-    comparison = Comparison(path_argument())
-    rng = random.Random(17)
+class ListingTest(Comparison):
+    def __init__(self, path):
+        super().__init__(path)
+        self.rng = random.Random(17)
 
-    def check(name, file, by="pipe"):
-        return comparison.check(name, file, listing(file), by)
+    def compare(self, name, file, by="pipe"):
+        return self.check(name, file, listing(file), by)
 
-    def check_refused(name, file, by="pipe"):
+    def refused_file(self, name, file, by="pipe"):
         if listing(file) != REFUSED:
-            comparison.fail(f"the reference takes: {name}")
-        check(name, file, by)
+            self.fail(f"the reference takes: {name}")
+        self.compare(name, file, by)
 
-    # Typed by hand, and the reference with them.
-    for name, file, text in [("the example", EXAMPLE, EXAMPLE_TEXT),
-                             ("typed by hand, 1", *OTHERS[0]), ("typed by hand, 2", *OTHERS[1])]:
-        if listing(file) != text:
-            comparison.fail(f"the reference lists differently: {name}")
-        for by in ("pipe", "file", 1, 7):
-            comparison.check(name, file, text, by)
+    def typed_by_hand(self):
+        """Texts typed by hand, for the program and for the reference."""
+        for name, file, text in [("the example", EXAMPLE, EXAMPLE_TEXT),
+                                 ("typed by hand, 1", *OTHERS[0]), ("typed by hand, 2", *OTHERS[1])]:
+            if listing(file) != text:
+                self.fail(f"the reference lists differently: {name}")
+            for by in ("pipe", "file", 1, 7):
+                self.check(name, file, text, by)
+        for name, file, good in limit_files():
+            if (listing(file) != REFUSED) != good:
+                self.fail(f"the reference answers differently: {name}")
+            self.compare(name, file)
 
-    # Limits.
-    for name, file, good in limit_files():
-        if (listing(file) != REFUSED) != good:
-            comparison.fail(f"the reference answers differently: {name}")
-        check(name, file)
+    def longest(self):
+        """The longest files, and the longest listing."""
+        for panel in PANELS:
+            for place in (0, 1, 16, 31):
+                file = longest_file(panel, place)
+                if len(file) != LONGEST_FILE:
+                    self.fail(f"the longest file has {len(file)} bytes")
+                self.compare(f"longest file, panel {panel}, 0x04 at {place}", file)
+        for by in ("file", 1, 100, 636):
+            self.compare(f"longest file, by {by}", longest_file(0), by)
+        text = self.compare("longest listing", longest_file(0))
+        longest = longest_listing()
+        if len(listing(longest_file(0))) != longest:
+            self.fail(f"the longest listing has {longest} bytes, not {len(listing(longest_file(0)))}")
+        print(f"longest listing: {longest} bytes, written {len(text)} (panel 1.44, 32 start and 32 stop steps, "
+              "63 writes of 0x01 and one of 0x04, a file of 637 bytes)")
 
-    # The longest files, and the longest listing.
-    for panel in PANELS:
-        for place in (0, 1, 16, 31):
-            file = longest_file(panel, place)
-            if len(file) != LONGEST_FILE:
-                comparison.fail(f"the longest file has {len(file)} bytes")
-            check(f"longest file, panel {panel}, 0x04 at {place}", file)
-    for by in ("file", 1, 100, 636):
-        check(f"longest file, by {by}", longest_file(0), by)
-    text = check("longest listing", longest_file(0))
-    longest = longest_listing()
-    if len(listing(longest_file(0))) != longest:
-        comparison.fail(f"the longest listing has {longest} bytes, not {len(listing(longest_file(0)))}")
-    print(f"longest listing: {longest} bytes, written {len(text)} (panel 1.44, 32 start and 32 stop steps, "
-          "63 writes of 0x01 and one of 0x04, a file of 637 bytes)")
+    def random_files(self):
+        """Good, damaged, cut and extended files."""
+        for i in range(150):
+            self.compare(f"good file {i}", good_file(self.rng))
+        for i in range(150):
+            self.compare(f"damaged file {i}", damaged(good_file(self.rng), self.rng))
+        for name, file in (("example", EXAMPLE), ("file", OTHERS[1][0])):
+            for at in range(len(file)):
+                self.refused_file(f"{name} cut at {at}", file[:at])
+        for at in self.rng.sample(range(LONGEST_FILE), 30):
+            self.refused_file(f"longest file cut at {at}", longest_file(at % 3)[:at])
+        for i in range(30):
+            self.refused_file(f"extended file {i}", good_file(self.rng) + self.rng.randbytes(self.rng.randint(1, 40)))
 
-    # Good, damaged, cut and extended files.
-    for i in range(150):
-        check(f"good file {i}", good_file(rng))
-    for i in range(150):
-        check(f"damaged file {i}", damaged(good_file(rng), rng))
-    for at in range(len(EXAMPLE)):
-        check_refused(f"example cut at {at}", EXAMPLE[:at])
-    file = OTHERS[1][0]
-    for at in range(len(file)):
-        check_refused(f"file cut at {at}", file[:at])
-    for at in rng.sample(range(LONGEST_FILE), 30):
-        check_refused(f"longest file cut at {at}", longest_file(at % 3)[:at])
-    for i in range(30):
-        check_refused(f"extended file {i}", good_file(rng) + rng.randbytes(rng.randint(1, 40)))
+    def numbers(self):
+        """Waits of one to four digits, and data bytes."""
+        for ms in (1, 2, 9, 10, 11, 19, 20, 99, 100, 101, 109, 110, 200, 255, 256, 257, 500, 512, 900, 909, 990, 999, 1000):
+            self.compare(f"wait {ms}", EXAMPLE[:-2] + ms.to_bytes(2, "big"))
+        for ms in (0, 1001, 1024, 10000, 65535):
+            self.refused_file(f"wait {ms}", EXAMPLE[:-2] + ms.to_bytes(2, "big"))
+        for data in range(0, 256, 5):
+            self.compare(f"data {data:02X}", EXAMPLE[:-4] + bytes([1, 0x57, 0x05, data]))
 
-    # Waits of one to four digits, and data bytes.
-    for ms in (1, 2, 9, 10, 11, 19, 20, 99, 100, 101, 109, 110, 200, 255, 256, 257, 500, 512, 900, 909, 990,
-               999, 1000):
-        check(f"wait {ms}", EXAMPLE[:-2] + ms.to_bytes(2, "big"))
-    for ms in (0, 1001, 1024, 10000, 65535):
-        check_refused(f"wait {ms}", EXAMPLE[:-2] + ms.to_bytes(2, "big"))
-    for data in range(0, 256, 5):
-        check(f"data {data:02X}", EXAMPLE[:-4] + bytes([1, 0x57, 0x05, data]))
+    def long_inputs(self):
+        """Long inputs, and none."""
+        self.refused_file("no input", b"")
+        self.refused_file("no input, as a file", b"", "file")
+        for length in (638, 639, 640, 641, 1023, 1024, 1025, 4095, 4096, 4097, 8192, 65535, 65536, 65536 + 637, MEGABYTE):
+            self.refused_file(f"longest file and zeros, {length} bytes", longest_file(2).ljust(length, b"\0"))
+            self.refused_file(f"example and zeros, {length} bytes", EXAMPLE.ljust(length, b"\0"))
+        self.refused_file("a megabyte from a file", longest_file(1).ljust(MEGABYTE, b"\0"), "file")
+        self.refused_file("a megabyte in pieces", longest_file(1).ljust(MEGABYTE, b"\0"), 10007)
+        self.refused_file("a megabyte of the example", (EXAMPLE * MEGABYTE)[:MEGABYTE])
+        self.refused_file("a megabyte of steps", (longest_file(0)[:-1] + write(0, 1) * MEGABYTE)[:MEGABYTE])
+        self.refused_file("a megabyte of random bytes", self.rng.randbytes(MEGABYTE))
+        self.refused_file("a megabyte of zeros", bytes(MEGABYTE))
 
-    # Long inputs and none.
-    check_refused("no input", b"")
-    check_refused("no input, as a file", b"", "file")
-    for length in (638, 639, 640, 641, 1023, 1024, 1025, 4095, 4096, 4097, 8192, 65535, 65536, 65536 + 637,
-                   MEGABYTE):
-        check_refused(f"longest file and zeros, {length} bytes", longest_file(2).ljust(length, b"\0"))
-        check_refused(f"example and zeros, {length} bytes", EXAMPLE.ljust(length, b"\0"))
-    check_refused("a megabyte from a file", longest_file(1).ljust(MEGABYTE, b"\0"), "file")
-    check_refused("a megabyte in pieces", longest_file(1).ljust(MEGABYTE, b"\0"), 10007)
-    check_refused("a megabyte of the example", (EXAMPLE * MEGABYTE)[:MEGABYTE])
-    check_refused("a megabyte of steps", (longest_file(0)[:-1] + write(0, 1) * MEGABYTE)[:MEGABYTE])
-    check_refused("a megabyte of random bytes", rng.randbytes(MEGABYTE))
-    check_refused("a megabyte of zeros", bytes(MEGABYTE))
 
-    sys.exit(comparison.summary("settings_list", 600))
+def main():
+    test = ListingTest(path_argument())
+    test.typed_by_hand()
+    test.longest()
+    test.random_files()
+    test.numbers()
+    test.long_inputs()
+    sys.exit(test.summary("settings_list", 600))
 
 
 if __name__ == "__main__":

@@ -1,0 +1,290 @@
+"""A script in the making, and single random calls for it. The reference answers each call as it is made, and calls are chosen
+by where its store stands."""
+import random
+from collections import Counter
+
+from simulator.panel import PANELS
+from tests.bitmaps import reference as bitmaps
+from tests.replay import inputs, reference
+
+BACK = 2 ** 31  # the smallest step that is refused
+
+
+class Script:
+    def __init__(self, name, seed=0):
+        self.name, self.seed = name, seed
+        self.rng = random.Random(f"{name} {seed}")
+        self.store = reference.Store()
+        self.calls = []
+        self.answers = []        # by the reference
+        self.typed = {}          # call number: an answer typed by hand; behind a * anything may follow
+        self.facts = []          # what, found, typed by hand: found without the program
+        self.shown = {}          # call number of a done: the shown picture from then on
+        self.places = Counter()  # how often something rare was reached
+
+    def call(self, text):
+        run = self.store.running
+        answer = reference.answer(self.store, text)
+        if answer == "0 done":
+            self.shown[len(self.calls)] = self.store.picture(0)
+            self.places.update(finished(run))
+        self.calls.append(text)
+        self.answers.append(answer)
+        return answer
+
+    def expect(self, text, typed):
+        """A call with its answer typed by hand."""
+        self.typed[len(self.calls)] = typed
+        return self.call(text)
+
+    def poll(self, step, length=""):
+        """A poll of the run under way, this many milliseconds after the last accepted reading."""
+        run = self.store.running
+        tick = run.last + step
+        answer = self.call(f"poll {tick % 2 ** 32}{length}")
+        if answer.startswith("0 "):
+            self.places["polls over a wrap of the tick"] += tick >= 2 ** 32
+            self.places["accepted steps of 2^31 - 1"] += step == BACK - 1
+            self.places["polls 1 ms early"] += answer == "0 wait 1"
+        elif answer == "10":
+            self.places["refused steps of 2^31"] += step == BACK
+            self.places["refused steps of 2^32 - 1"] += step == 2 ** 32 - 1
+        if answer.startswith("0 line") and run.next == run.first_stop:
+            self.places["last lines later than F + 120N" if run.passed > run.lines_end() else "last lines by F + 120N"] += 1
+        return answer
+
+    def abandon(self):
+        run = self.store.running
+        if run and self.call("abandon") == "0":
+            self.places["abandoned " + place_name(run)] += 1
+
+
+def finished(run):
+    """What a finished run adds to the count of places."""
+    yield f"runs finished, {run.panel.name} inch"
+    if run.first >= 2 ** 32:
+        yield "runs with F beyond 2^32"
+    if run.wait_before_lines:
+        yield "runs with a wait before the first line"
+    if not run.stop:
+        yield "runs with waits alone to stop" if run.wait_before_done else "runs without stop steps"
+
+
+def place_name(run):
+    stage = run.stage()
+    if stage == 0:
+        return "among the start writes"
+    if stage < 5:
+        return "before the last line" if run.next == run.first_stop - 1 else f"in stage {stage}"
+    if run.next == run.last_thing:
+        return "before done"
+    return "before the first stop write" if run.next == run.first_stop else "among the stop writes"
+
+
+# arguments
+
+def hexadecimal(rng, data):
+    text = data.hex()
+    if not text:
+        return "-"
+    return text if rng.random() < 0.3 else text.upper() if rng.random() < 0.7 else text.title()
+
+
+def any_slot(script):
+    """Mostly one that an upload may name."""
+    n = script.store.slots or 3
+    if script.rng.random() < 0.75:
+        return script.rng.randint(1, n)
+    return script.rng.choice((0, 0, 0, n, n + 1, 8, 255, 256, 257, 2 ** 31, 2 ** 32 - 1))
+
+
+def any_tick(script):
+    rng = script.rng
+    return rng.choice((0, 1, 2 ** 31 - 1, 2 ** 31, 2 ** 32 - 1, 2 ** 32 - rng.randint(1, 5000), rng.randrange(2 ** 32)))
+
+
+def any_panel(script):
+    """The store's panel, if it has one."""
+    return script.store.panel or script.rng.choice(PANELS)
+
+
+def picture_bytes(panel):
+    return panel.width // 8 * panel.height
+
+
+def right_length(script):
+    return (script.store.slots + 1) * script.store.size()
+
+
+def wrong_length(script):
+    right, size = right_length(script), script.store.size()
+    most = reference.MOST_MEMORY
+    wrong = script.rng.choice((0, 1, right - 1, right + 1, right - size, right + size, most, script.rng.randrange(right)))
+    return wrong if wrong != right and wrong <= most else 0
+
+
+# calls that open and end nothing
+
+def region(script):
+    rng, panel = script.rng, any_panel(script)
+    x, y, width, height = inputs.region(rng, panel)
+    payload = inputs.payload(rng, width, height)
+    if rng.random() < 0.2:
+        payload = inputs.faulty_payload(rng, width, height)
+    if rng.random() < 0.25:
+        x, y, width, height = inputs.faulty_region(rng, panel)
+    script.call(f"region {any_slot(script)} {x} {y} {width} {height} {hexadecimal(rng, payload)}")
+
+
+def bitmap(script):
+    rng = script.rng
+    file = rng.choice((inputs.bitmap, inputs.damaged_bitmap))(rng, any_panel(script))
+    script.call(f"bitmap {any_slot(script)} {hexadecimal(rng, file)}")
+
+
+def upload_to_slot_of_run(script):
+    run, rng = script.store.running, script.rng
+    if run is None:
+        region(script)
+    elif rng.random() < 0.5:
+        file = rng.choice((inputs.bitmap, inputs.damaged_bitmap))(rng, run.panel)
+        script.call(f"bitmap {run.slot} {hexadecimal(rng, file)}")
+    else:
+        place = rng.choice((inputs.region, inputs.faulty_region))(rng, run.panel)
+        script.call("region %d %d %d %d %d %s" % (run.slot, *place, rng.choice(("-", "80", "FF"))))
+
+
+def write(script):
+    rng = script.rng
+    slot = rng.randint(0, script.store.slots) if rng.random() < 0.8 else any_slot(script)
+    exact = bitmaps.file_length(any_panel(script).name)
+    length = rng.choice((None, None, exact, exact - 1, min(exact + 1, 6398), 0, 6398, rng.randint(0, 6398)))
+    script.call(f"write {slot}" if length is None else f"write {slot} {length}")
+
+
+def write_all(script):
+    """Every slot, and one that is none."""
+    for slot in range(script.store.slots + 2):
+        script.call(f"write {slot}")
+
+
+def start(script):
+    script.call(f"start {any_slot(script)} {any_tick(script)}")
+
+
+def poll(script):
+    script.call(f"poll {any_tick(script)}")
+
+
+def refused_poll(script):
+    """A short output, a clock that went back, or both; without a run, anything."""
+    rng = script.rng
+    short = rng.choice((" 0", " 1", " 62", " 63", " 81", " 116", " 116"))
+    if script.store.running is None:
+        script.call(f"poll {any_tick(script)}{rng.choice(('', short))}")
+        return
+    way = rng.randrange(3)
+    back = rng.choice((BACK, BACK + 1, 2 ** 32 - 1, 2 ** 32 - 30, rng.randrange(BACK, 2 ** 32)))
+    script.poll(0 if way == 0 else back, "" if way == 1 else short)
+
+
+def abandon(script):
+    script.call("abandon")
+
+
+def abandon_without_run(script):
+    if script.store.running is None:
+        abandon(script)
+
+
+def wrong_memory(script):
+    """Some calls with memory of a wrong length, which they leave as it is."""
+    rng = script.rng
+    if script.store.panel is None:
+        script.call(f"lend {rng.randint(0, reference.MOST_MEMORY)}")
+        return
+    script.call(f"lend {wrong_length(script)}")
+    for _ in range(rng.randint(1, 4)):
+        rng.choice((region, bitmap, write, start, poll, refused_poll, abandon))(script)
+    script.call(f"lend {right_length(script)}")
+
+
+MALFORMED = (
+    "", " ", "?", "-",
+    "open", "open 1", "open 1 ", "open -1 -", "open 1 0", "open 1 00 ", "open 1 0G", "open 1 00 x", "open 1 00 46465",
+    "open  1 00", " open 1 00", "OPEN 1 00", "Open 1 00", "open 1 -- 5", "open 1 00-", "open 1 - 1 1", "open 4294967296 00",
+    "open x 00", "opened 1 00",
+    "lend", "lend ", "lend -", "lend 46465", "lend 1 2", "lend 1.5", "lend +1", "lend 0x10", "lend 1e3", "lend 4294967296",
+    "region", "region 1 0 0 1 1", "region 1 0 0 1 1 80 80", "region 1 0 0 1 1 8", "region 1 0 0 1 1 8O",
+    "region 1 0 0 -1 1 80", "region 1 0 0 1 4294967296 80", "region 4294967297 0 0 1 1 80", "region 1 0 0 1 1 80 ",
+    "region 1 0 0  1 80", "region,1,0,0,1,1,80", "region 1 0 0 1 1 :0", "region 1 0 0 1 1 /0", "region 1 0 0 1 1 @0",
+    "region 1 0 0 1 1 0`", "region 1 0 0 1 1 0g", "region 1 0 0 1 1 \xB20",
+    "bitmap", "bitmap 1", "bitmap 1 BM", "bitmap 1 424", "bitmap - 42", "bitmap 1 42 4D", "bitmap 1\t42", "bitmap 1 42\t4D",
+    "start", "start 1", "start 1 ", "start 1 4294967296", "start 1 5 5", "start one 5", "start 1 -5", "start 1 5\r",
+    "start 1 18446744073709551616", "start :1 5", "start /1 5",
+    "poll", "poll ", "poll -", "poll 1 2 3", "poll 4294967296", "poll 1 6399", "poll 1 117 ", "poll 1 -", "polls 1", "pol 1",
+    "poll 1\x00", "poll 1 4294967413", "poll 99999999999999999999999999999999", "poll 18446744073709551617", "poll \xB2",
+    "poll 1\xA0117", "abandon 1", "abandon ", " abandon", "abandoned", "abando", "abandon\r", "abandon\x00", "ABANDON",
+    "write", "write ", "write 1 6399", "write -1", "write 1 1 1", "write 1  1598", "write\x001", "write 4294967296",
+    "done", "quit", "# note", "\xB2", "\xFF\xFE", "\xEF\xBB\xBFabandon",
+)
+
+
+def malformed(script):
+    rng = script.rng
+    text = rng.choice(MALFORMED)
+    if rng.random() < 0.1:
+        text = "".join(chr(rng.choice((*range(10), *range(11, 256)))) for _ in range(rng.randint(1, 60)))
+    script.call(text)
+
+
+STAYING = (region, bitmap, upload_to_slot_of_run, write, start, refused_poll, refused_poll, abandon_without_run, wrong_memory,
+           malformed)
+
+
+def other_call(script):
+    """Some call that does not move a run on. Without a run it may start one."""
+    script.rng.choice(STAYING)(script)
+
+
+# openings, and calls that are accepted
+
+def open_store(script, panel=None, file=None, n=None):
+    rng = script.rng
+    panel = panel or rng.choice(PANELS)
+    n = n or rng.randint(1, 7)
+    file = file or inputs.settings_file(rng, panel)
+    length = rng.choice(("", "", f" {(n + 1) * picture_bytes(panel)}"))
+    script.call(f"open {n} {hexadecimal(rng, file)}{length}")
+
+
+def refused_opening(script):
+    """A file with a fault, a wrong length, a wrong n, or several of these."""
+    rng = script.rng
+    panel, n = rng.choice(PANELS), rng.randint(1, 7)
+    right = (n + 1) * picture_bytes(panel)
+    wrong = rng.choice((0, 1, right - picture_bytes(panel), right - 1, min(right + 1, 46464), rng.randrange(right)))
+    bad_n = rng.choice((0, 0, 8, 8, 9, 255, 256, 257, 263, 2 ** 31, 2 ** 32 - 1))
+    damaged = hexadecimal(rng, inputs.damaged_settings(rng, panel))
+    good = hexadecimal(rng, inputs.settings_file(rng, panel))
+    script.call(rng.choice((
+        f"open {n} {damaged}", f"open {n} {damaged} {right}", f"open {n} {damaged} {wrong}", f"open {bad_n} {damaged}",
+        f"open {n} {good} {wrong}", f"open {bad_n} {good}", f"open {bad_n} {good} {wrong}",
+        f"open 0 {good} {picture_bytes(panel)}")))
+
+
+def upload(script, slot):
+    """A whole picture and some regions."""
+    rng, panel = script.rng, script.store.panel
+    if rng.random() < 0.8:
+        script.call(f"bitmap {slot} {hexadecimal(rng, inputs.bitmap(rng, panel))}")
+    for _ in range(rng.randint(0, 5)):
+        x, y, width, height = inputs.region(rng, panel)
+        script.call(f"region {slot} {x} {y} {width} {height} {hexadecimal(rng, inputs.payload(rng, width, height))}")
+
+
+def begin(script):
+    """An upload to some slot and a start with it."""
+    slot = script.rng.randint(1, script.store.slots)
+    upload(script, slot)
+    script.call(f"start {slot} {any_tick(script)}")
