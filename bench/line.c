@@ -1,7 +1,8 @@
 /*
- * Times the library's epd_build_line beside two plain C versions of it (plain.c) in one run: random
- * rows of the 2.7 inch panel, every stage and every row. The versions take turns; the best round of
- * each counts. Usage: line [rounds]
+ * The library's epd_build_line beside two plain C versions of it (plain.c), in one run: random rows of the 2.7 inch
+ * panel, every stage and every row. The versions take turns; the best round of each counts.
+ *
+ * Usage: line ROUNDS     prints nanoseconds a line
  */
 #define _POSIX_C_SOURCE 199309L
 #include <stdio.h>
@@ -21,9 +22,9 @@ static const struct {
     const char *name;
     builder *build;
 } versions[3] = {
-    {"library", epd_build_line},
-    {"plain C, dot by dot", plain_dots},
-    {"plain C, byte by byte", plain_bytes},
+    {"line_library", epd_build_line},
+    {"line_dots", plain_dots},
+    {"line_bytes", plain_bytes},
 };
 
 static uint8_t picture[ROWS][ROW_BYTES];
@@ -74,7 +75,7 @@ static double time_one(builder *build)
 
 int main(int argc, char **argv)
 {
-    int rounds = argc > 1 ? atoi(argv[1]) : 60;
+    int rounds = argc == 2 ? atoi(argv[1]) : 0;
     double best[3] = {1e99, 1e99, 1e99};
 
     srand(17);
@@ -90,14 +91,7 @@ int main(int argc, char **argv)
                 best[v] = ns;
         }
 
-    printf("one line of the 2.7 inch panel (33 row bytes in, 110 bytes out), arguments checked;\n"
-           "random rows, all 4 stages and 176 rows, best of %d rounds of %d lines each\n",
-           rounds, LINES);
-    for (int v = 0; v < 3; v++) {
-        printf("%-22s %7.1f ns per line", versions[v].name, best[v]);
-        if (v > 0)
-            printf("   library / this: %.2f", best[0] / best[v]);
-        printf("\n");
-    }
+    for (int v = 0; v < 3; v++)
+        printf("%s %.2f\n", versions[v].name, best[v]);
     return 0;
 }

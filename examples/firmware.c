@@ -1,6 +1,7 @@
 /*
  * How a start clock's firmware uses the driver's three calls: it checks a settings file and a bitmap
- * that are kept as byte arrays, then builds the four lines of one row of a 1.44 inch panel.
+ * that are kept as byte arrays, prints the four lines of one row of a 1.44 inch panel, then sends all
+ * lines of an update, frame by frame. The clock and the bus are simulated here.
  *
  *   gcc -std=c99 -Wall -Wextra -pedantic -Iinclude examples/firmware.c \
  *       target/staticlib/libclock_api.a -o target/tests/firmware
@@ -10,6 +11,7 @@
 #include "start_board.h"
 
 enum { PANEL = EPD_PANEL_1_44, ROWS = 96, SCAN_BYTES = ROWS / 4, ROW = 42 };
+enum { STAGES = 4, FRAMES = 16, FRAME_MS = 30 };
 
 static const uint8_t settings[] = {
     1, PANEL,                                           /* panel */
@@ -50,6 +52,48 @@ static void print_bytes(const char *name, const uint8_t *bytes, size_t n)
     printf("\n");
 }
 
+/* A row of the picture that a stage looks at: the shown one in stages 1 and 2, the new one after. */
+static const uint8_t *row_of_stage(uint32_t stage, uint32_t row)
+{
+    return stage <= 2 ? shown_row : bib + ROW_AT(row);
+}
+
+static uint32_t clock_ms;
+static unsigned long lines_sent, bytes_sent;
+
+/* A firmware sleeps here. How late it wakes does not move the next frame: that counts from the first. */
+static void sleep_until(uint32_t due_ms)
+{
+    if ((int32_t)(due_ms - clock_ms) > 0)
+        clock_ms = due_ms;
+}
+
+/* A firmware sends the line to register 0x0A here, and 2F to register 0x02 after it. */
+static void send_line(const uint8_t *line, size_t n)
+{
+    (void)line;
+    lines_sent++;
+    bytes_sent += 3 + n + 4;
+}
+
+/* Every frame of every stage, frame i from first + 30 i on. Answers EPD_OK or the number of a refusal. */
+static uint8_t send_frames(uint32_t first_ms)
+{
+    for (uint32_t i = 0; i < STAGES * FRAMES; i++) {
+        uint32_t stage = i / FRAMES + 1;
+        sleep_until(first_ms + FRAME_MS * i);
+        for (uint32_t row = 0; row < ROWS; row++) {
+            uint8_t line[EPD_LINE_BYTES_1_44];
+            uint8_t answer = epd_build_line(PANEL, stage, row, row_of_stage(stage, row), EPD_ROW_BYTES_1_44,
+                                            line, sizeof line);
+            if (answer != EPD_OK)
+                return answer;
+            send_line(line, sizeof line);
+        }
+    }
+    return EPD_OK;
+}
+
 int main(void)
 {
     uint8_t answer = epd_check_settings(settings, sizeof settings);
@@ -62,12 +106,10 @@ int main(void)
     if (answer != EPD_OK)
         return 1;
 
-    const uint8_t *new_row = bib + ROW_AT(ROW);
-    for (uint32_t stage = 1; stage <= 4; stage++) {
+    for (uint32_t stage = 1; stage <= STAGES; stage++) {
         uint8_t line[EPD_LINE_BYTES_1_44];
-        const uint8_t *dots = stage <= 2 ? shown_row : new_row;
 
-        answer = epd_build_line(PANEL, stage, ROW, dots, EPD_ROW_BYTES_1_44, line, sizeof line);
+        answer = epd_build_line(PANEL, stage, ROW, row_of_stage(stage, ROW), EPD_ROW_BYTES_1_44, line, sizeof line);
         printf("stage %u row %d: %u\n", (unsigned)stage, ROW, answer);
         if (answer != EPD_OK)
             return 1;
@@ -75,5 +117,10 @@ int main(void)
         print_bytes("scan", line + EPD_ROW_BYTES_1_44, SCAN_BYTES);
         print_bytes("odd ", line + EPD_ROW_BYTES_1_44 + SCAN_BYTES, EPD_ROW_BYTES_1_44);
     }
-    return 0;
+
+    clock_ms = 4294967290u; /* the counter wraps on the way */
+    answer = send_frames(clock_ms);
+    printf("frames %u: %lu lines, %lu bytes, the last frame at tick %u\n", answer, lines_sent, bytes_sent,
+           (unsigned)clock_ms);
+    return answer;
 }

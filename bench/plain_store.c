@@ -1,0 +1,488 @@
+/*
+ * A store in plain C, as a careful engineer would write it: the state lies behind a pointer and changes in place,
+ * and every call tests it first, file and all, as the rules ask (13). Dots of a region are set one by one.
+ */
+#include "plain.h"
+#include "store.h"
+
+#include <stdbool.h>
+#include <string.h>
+
+enum { FILE_MAX = 637, OUT_MIN = 117, FRAME_MS = 30, HEADER = 62 };
+
+struct panel {
+    uint32_t row_bytes, rows, frames, stride;
+    uint8_t channels[8], level;
+};
+
+static const struct panel panels[3] = {
+    {16, 96, 16, 16, {0x00, 0x00, 0x00, 0x00, 0x00, 0x0F, 0xFF, 0x00}, 0x03},
+    {25, 96, 16, 28, {0x00, 0x00, 0x00, 0x00, 0x01, 0xFF, 0xE0, 0x00}, 0x03},
+    {33, 176, 21, 36, {0x00, 0x00, 0x00, 0x7F, 0xFF, 0xFE, 0x00, 0x00}, 0x00},
+};
+
+static const uint8_t data_length[10] = {0, 8, 1, 1, 1, 1, 1, 1, 1, 2};
+
+enum phase { IDLE, ABANDONED, RUNNING };
+enum part { START, LINES, STOP };
+
+struct run {
+    uint32_t slot, last;
+    uint64_t passed, handed, first;
+    enum part part;
+    uint32_t step, stage, frame, row;
+};
+
+struct store {
+    uint8_t file[FILE_MAX];
+    size_t len;
+    uint32_t slots;
+    enum phase phase;
+    struct run run;
+    bool trusted; /* calls do not test the state */
+};
+
+/* ---- the settings file */
+
+/* The bytes of the step at an index, or 0 where none stands there. */
+static size_t step_size(const uint8_t *file, size_t len, size_t at, const struct panel *panel)
+{
+    if (len - at < 3)
+        return 0;
+    if (file[at] == 0x44) {
+        unsigned ms = file[at + 1] * 256u + file[at + 2];
+        return 1 <= ms && ms <= 1000 ? 3 : 0;
+    }
+    uint8_t reg = file[at + 1];
+    if (file[at] != 0x57 || reg > 9 || data_length[reg] == 0 || len - at - 2 < data_length[reg])
+        return 0;
+    if (reg == 0x01 && memcmp(file + at + 2, panel->channels, 8) != 0)
+        return 0;
+    if (reg == 0x04 && file[at + 2] != panel->level)
+        return 0;
+    return 2u + data_length[reg];
+}
+
+/* Passes n steps; the index behind them, or 0. The registers that they write are marked in `written`. */
+static size_t pass_steps(const uint8_t *file, size_t len, size_t at, unsigned n, const struct panel *panel,
+                         unsigned *written)
+{
+    for (; n > 0; n--) {
+        size_t size = step_size(file, len, at, panel);
+        if (size == 0)
+            return 0;
+        if (file[at] == 0x57)
+            *written |= 1u << file[at + 1];
+        at += size;
+    }
+    return at;
+}
+
+/* The index of the stop section of a good file, or 0 for a bad one. */
+static size_t stop_of(const uint8_t *file, size_t len)
+{
+    unsigned written = 0, ignored = 0;
+    if (len < 3 || file[0] != 1 || file[1] > 2 || file[2] < 2 || file[2] > 32)
+        return 0;
+    const struct panel *panel = &panels[file[1]];
+    size_t stop = pass_steps(file, len, 3, file[2], panel, &written);
+    if (stop == 0 || (written & 0x12) != 0x12 || len <= stop || file[stop] > 32)
+        return 0;
+    return pass_steps(file, len, stop + 1, file[stop], panel, &ignored) == len ? stop : 0;
+}
+
+/* The next write from step k on: the ms of the waits before it, and its index and step. */
+struct next_write {
+    uint32_t waits, step;
+    size_t at;
+};
+
+static size_t size_of_good(const uint8_t *file, size_t at)
+{
+    return file[at] == 0x44 ? 3 : 2u + data_length[file[at + 1]];
+}
+
+static struct next_write next_write(const uint8_t *file, size_t section, uint32_t k)
+{
+    struct next_write next = {0, k, section + 1};
+    for (uint32_t i = 0; i < k; i++)
+        next.at += size_of_good(file, next.at);
+    while (next.step < file[section] && file[next.at] == 0x44) {
+        next.waits += file[next.at + 1] * 256u + file[next.at + 2];
+        next.at += 3;
+        next.step++;
+    }
+    return next;
+}
+
+/* ---- the state's conditions (13) and the memory's length (1) */
+
+static bool after_write(const uint8_t *file, size_t section, uint32_t k)
+{
+    size_t at = section + 1;
+    if (k == 0)
+        return true;
+    for (uint32_t i = 1; i < k; i++)
+        at += size_of_good(file, at);
+    return file[at] == 0x57;
+}
+
+static bool due_by(const struct run *run, uint32_t frame, uint64_t moment)
+{
+    return run->first <= moment && (uint64_t)FRAME_MS * frame <= moment - run->first;
+}
+
+static bool run_valid(const struct store *store, const struct panel *panel, size_t stop)
+{
+    const struct run *run = &store->run;
+    if (run->slot < 1 || run->slot > store->slots || run->handed > run->passed)
+        return false;
+    if (run->part == START)
+        return run->step <= store->file[2] && after_write(store->file, 2, run->step) && run->first == 0 &&
+               (run->step != 0 || run->handed == 0);
+    if (run->part == STOP)
+        return run->step <= store->file[stop] && after_write(store->file, stop, run->step) &&
+               due_by(run, 4 * panel->frames - (run->step == 0), run->handed);
+    if (run->stage < 1 || run->stage > 4 || run->frame >= panel->frames || run->row >= panel->rows)
+        return false;
+    uint32_t frame = (run->stage - 1) * panel->frames + run->frame;
+    return frame + run->row > 0 && due_by(run, frame - (run->row == 0), run->handed);
+}
+
+static size_t picture_bytes(const struct panel *panel)
+{
+    return (size_t)panel->rows * panel->row_bytes;
+}
+
+/* 13 or 1, or 0; and the panel and the stop section. */
+static uint8_t refused(const struct store *store, size_t memory_len, const struct panel **panel, size_t *stop)
+{
+    *stop = store->len > FILE_MAX ? 0 : stop_of(store->file, store->len);
+    if (*stop == 0 || store->slots < 1 || store->slots > 7)
+        return 13;
+    *panel = &panels[store->file[1]];
+    if (store->phase == RUNNING && !run_valid(store, *panel, *stop))
+        return 13;
+    return memory_len == (store->slots + 1) * picture_bytes(*panel) ? 0 : 1;
+}
+
+/* The same for a state that is trusted: the file is not read through. */
+static uint8_t entered(const struct store *store, size_t memory_len, const struct panel **panel, size_t *stop)
+{
+    if (!store->trusted)
+        return refused(store, memory_len, panel, stop);
+    *panel = &panels[store->file[1]];
+    *stop = 3;
+    if (store->run.part == STOP)
+        for (unsigned i = 0; i < store->file[2]; i++)
+            *stop += size_of_good(store->file, *stop);
+    return 0;
+}
+
+/* ---- the calls */
+
+static uint8_t store_open(struct store *store, const uint8_t *file, size_t len, uint32_t n, uint8_t *memory,
+                          size_t memory_len)
+{
+    if (stop_of(file, len) == 0)
+        return 2;
+    if (n < 1 || n > 7 || memory_len != (n + 1) * picture_bytes(&panels[file[1]]))
+        return 1;
+    memset(store, 0, sizeof *store);
+    memcpy(store->file, file, len);
+    store->len = len;
+    store->slots = n;
+    memset(memory, 0xFF, memory_len);
+    return 0;
+}
+
+static uint8_t upload_refused(const struct store *store, size_t memory_len, uint32_t slot,
+                              const struct panel **panel)
+{
+    size_t stop;
+    uint8_t number = entered(store, memory_len, panel, &stop);
+    if (number != 0)
+        return number;
+    if (slot < 1 || slot > store->slots)
+        return 3;
+    return store->phase == RUNNING && store->run.slot == slot ? 7 : 0;
+}
+
+static uint32_t number_at(const uint8_t *file, size_t at)
+{
+    return file[at] | (uint32_t)file[at + 1] << 8 | (uint32_t)file[at + 2] << 16 | (uint32_t)file[at + 3] << 24;
+}
+
+static bool bitmap_good(const struct panel *panel, const uint8_t *file, size_t len)
+{
+    uint32_t rows_len = panel->rows * panel->stride;
+    return len == HEADER + rows_len && file[0] == 'B' && file[1] == 'M' && number_at(file, 2) == len &&
+           number_at(file, 6) == 0 && number_at(file, 10) == HEADER && number_at(file, 14) == 40 &&
+           number_at(file, 18) == 8 * panel->row_bytes && number_at(file, 22) == panel->rows &&
+           number_at(file, 26) == 0x00010001 && number_at(file, 30) == 0 &&
+           (number_at(file, 34) == 0 || number_at(file, 34) == rows_len) &&
+           (number_at(file, 46) == 0 || number_at(file, 46) == 2);
+}
+
+static uint8_t store_upload_bitmap(struct store *store, uint8_t *memory, size_t memory_len, uint32_t slot,
+                                   const uint8_t *file, size_t len)
+{
+    const struct panel *panel;
+    uint8_t number = upload_refused(store, memory_len, slot, &panel);
+    if (number != 0)
+        return number;
+    if (!bitmap_good(panel, file, len))
+        return 4;
+    uint8_t *picture = memory + slot * picture_bytes(panel);
+    for (uint32_t y = 0; y < panel->rows; y++)
+        memcpy(picture + y * panel->row_bytes, file + HEADER + (panel->rows - 1 - y) * panel->stride,
+               panel->row_bytes);
+    return 0;
+}
+
+static uint8_t region_refused(const struct panel *panel, uint32_t x, uint32_t y, uint32_t width, uint32_t height,
+                              const uint8_t *payload, size_t payload_len)
+{
+    if (width < 1 || height < 1 || (uint64_t)x + width > 8 * panel->row_bytes || (uint64_t)y + height > panel->rows)
+        return 5;
+    uint32_t bytes = (width + 7) / 8;
+    if (payload_len != (size_t)height * bytes)
+        return 6;
+    for (uint32_t j = 0; j < height; j++)
+        if (payload[j * bytes + bytes - 1] & (0xFFu >> (width - 8 * (bytes - 1))))
+            return 6;
+    return 0;
+}
+
+static uint8_t store_upload_region(struct store *store, uint8_t *memory, size_t memory_len, uint32_t slot, uint32_t x,
+                                   uint32_t y, uint32_t width, uint32_t height, const uint8_t *payload,
+                                   size_t payload_len)
+{
+    const struct panel *panel;
+    uint8_t number = upload_refused(store, memory_len, slot, &panel);
+    if (number != 0)
+        return number;
+    number = region_refused(panel, x, y, width, height, payload, payload_len);
+    if (number != 0)
+        return number;
+    uint8_t *picture = memory + slot * picture_bytes(panel);
+    uint32_t bytes = (width + 7) / 8;
+    for (uint32_t j = 0; j < height; j++)
+        for (uint32_t i = 0; i < width; i++) {
+            uint8_t *byte = picture + (y + j) * panel->row_bytes + (x + i) / 8;
+            uint8_t mark = (uint8_t)(0x80 >> (x + i) % 8);
+            if (payload[j * bytes + i / 8] >> (7 - i % 8) & 1)
+                *byte |= mark;
+            else
+                *byte &= (uint8_t)~mark;
+        }
+    return 0;
+}
+
+static uint8_t store_start(struct store *store, size_t memory_len, uint32_t slot, uint32_t tick)
+{
+    const struct panel *panel;
+    size_t stop;
+    uint8_t number = entered(store, memory_len, &panel, &stop);
+    if (number != 0)
+        return number;
+    if (store->phase == RUNNING)
+        return 8;
+    if (store->phase == ABANDONED)
+        return 12;
+    if (slot < 1 || slot > store->slots)
+        return 3;
+    store->phase = RUNNING;
+    store->run = (struct run){.slot = slot, .last = tick};
+    return 0;
+}
+
+/* What a poll answers: a refusal's number, or one of these with bytes put out or ms to go. */
+struct answer {
+    enum { REFUSED, WRITE, LINE, WAIT, DONE } kind;
+    size_t value;
+};
+
+static uint32_t to_go(uint64_t from, uint32_t ms, uint64_t moment)
+{
+    uint64_t gone = moment - from;
+    return ms <= gone ? 0 : ms - (uint32_t)gone;
+}
+
+static struct answer put_step(struct store *store, const struct next_write *next, uint64_t moment, uint8_t *out)
+{
+    const uint8_t *step = store->file + next->at;
+    size_t length = data_length[step[1]];
+    out[0] = 0x70;
+    out[1] = step[1];
+    out[2] = 0x72;
+    memcpy(out + 3, step + 2, length);
+    store->run.handed = moment;
+    store->run.step = next->step + 1;
+    return (struct answer){WRITE, 3 + length};
+}
+
+static void next_line(struct run *run, const struct panel *panel)
+{
+    if (++run->row < panel->rows)
+        return;
+    run->row = 0;
+    if (++run->frame < panel->frames)
+        return;
+    run->frame = 0;
+    if (++run->stage <= 4)
+        return;
+    run->part = STOP;
+    run->step = 0;
+}
+
+static struct answer put_line(struct store *store, const struct panel *panel, uint64_t moment, const uint8_t *memory,
+                              uint8_t *out)
+{
+    struct run *run = &store->run;
+    uint32_t slot = run->stage <= 2 ? 0 : run->slot;
+    size_t length = 2 * panel->row_bytes + panel->rows / 4;
+    out[0] = 0x70;
+    out[1] = 0x0A;
+    out[2] = 0x72;
+    plain_bytes(store->file[1], run->stage, run->row,
+                memory + slot * picture_bytes(panel) + run->row * panel->row_bytes, panel->row_bytes, out + 3, length);
+    memcpy(out + 3 + length, (const uint8_t[]){0x70, 0x02, 0x72, 0x2F}, 4);
+    run->handed = moment;
+    next_line(run, panel);
+    return (struct answer){LINE, 3 + length + 4};
+}
+
+static struct answer waiting(uint32_t ms)
+{
+    return (struct answer){WAIT, ms};
+}
+
+static struct answer poll_start(struct store *store, const struct panel *panel, uint64_t moment,
+                                const uint8_t *memory, uint8_t *out)
+{
+    struct run *run = &store->run;
+    struct next_write next = next_write(store->file, 2, run->step);
+    uint32_t ms = to_go(run->handed, next.waits, moment);
+    if (ms > 0)
+        return waiting(ms);
+    if (next.step < store->file[2])
+        return put_step(store, &next, moment, out);
+    run->part = LINES;
+    run->stage = 1;
+    run->frame = run->row = 0;
+    run->first = moment;
+    return put_line(store, panel, moment, memory, out);
+}
+
+static struct answer poll_stop(struct store *store, const struct panel *panel, size_t stop, uint64_t moment,
+                               uint8_t *memory, uint8_t *out)
+{
+    struct run *run = &store->run;
+    struct next_write next = next_write(store->file, stop, run->step);
+    uint32_t ms = to_go(run->first, 4 * FRAME_MS * panel->frames + next.waits, moment);
+    uint32_t other = to_go(run->handed, next.waits, moment);
+    if (ms < other)
+        ms = other;
+    if (ms > 0)
+        return waiting(ms);
+    if (next.step < store->file[stop])
+        return put_step(store, &next, moment, out);
+    memcpy(memory, memory + run->slot * picture_bytes(panel), picture_bytes(panel));
+    store->phase = IDLE;
+    return (struct answer){DONE, 0};
+}
+
+static struct answer poll_line(struct store *store, const struct panel *panel, uint64_t moment,
+                               const uint8_t *memory, uint8_t *out)
+{
+    struct run *run = &store->run;
+    uint32_t ms = 0;
+    if (run->row == 0)
+        ms = to_go(run->first, FRAME_MS * ((run->stage - 1) * panel->frames + run->frame), moment);
+    return ms > 0 ? waiting(ms) : put_line(store, panel, moment, memory, out);
+}
+
+static struct answer store_poll(struct store *store, uint32_t tick, uint8_t *memory, size_t memory_len, uint8_t *out,
+                                size_t out_len)
+{
+    const struct panel *panel;
+    size_t stop;
+    struct run *run = &store->run;
+    uint8_t number = entered(store, memory_len, &panel, &stop);
+    if (number != 0)
+        return (struct answer){REFUSED, number};
+    if (store->phase != RUNNING)
+        return (struct answer){REFUSED, 9};
+    if (out_len < OUT_MIN)
+        return (struct answer){REFUSED, 11};
+    uint32_t step = tick - run->last;
+    if (step >= 0x80000000u || UINT64_MAX - run->passed < step)
+        return (struct answer){REFUSED, 10};
+    run->last = tick;
+    run->passed += step;
+    switch (run->part) {
+    case START:
+        return poll_start(store, panel, run->passed, memory, out);
+    case LINES:
+        return poll_line(store, panel, run->passed, memory, out);
+    default:
+        return poll_stop(store, panel, stop, run->passed, memory, out);
+    }
+}
+
+/* ---- what is timed */
+
+static size_t update(bool trusted, const uint8_t *file, size_t file_len, const uint8_t *bitmap, size_t bitmap_len,
+                     uint8_t *memory, size_t memory_len, uint8_t *out, size_t out_len)
+{
+    struct store store;
+    size_t at = 0;
+    uint32_t tick = 0;
+    if (store_open(&store, file, file_len, 1, memory, memory_len) != 0)
+        return 0;
+    store.trusted = trusted;
+    store_upload_bitmap(&store, memory, memory_len, 1, bitmap, bitmap_len);
+    store_start(&store, memory_len, 1, tick);
+    for (;;) {
+        struct answer answer = store_poll(&store, tick, memory, memory_len, out + at, out_len - at);
+        if (answer.kind == WAIT)
+            tick += (uint32_t)answer.value;
+        else if (answer.kind == WRITE || answer.kind == LINE)
+            at += answer.value;
+        else
+            return at;
+    }
+}
+
+size_t plain_update(const uint8_t *file, size_t file_len, const uint8_t *bitmap, size_t bitmap_len, uint8_t *memory,
+                    size_t memory_len, uint8_t *out, size_t out_len)
+{
+    return update(false, file, file_len, bitmap, bitmap_len, memory, memory_len, out, out_len);
+}
+
+size_t trusting_update(const uint8_t *file, size_t file_len, const uint8_t *bitmap, size_t bitmap_len,
+                       uint8_t *memory, size_t memory_len, uint8_t *out, size_t out_len)
+{
+    return update(true, file, file_len, bitmap, bitmap_len, memory, memory_len, out, out_len);
+}
+
+uint8_t plain_bitmap(const uint8_t *file, size_t file_len, const uint8_t *bitmap, size_t bitmap_len, uint8_t *memory,
+                     size_t memory_len)
+{
+    struct store store;
+    uint8_t number = store_open(&store, file, file_len, 1, memory, memory_len);
+    if (number != 0)
+        return number;
+    return store_upload_bitmap(&store, memory, memory_len, 1, bitmap, bitmap_len);
+}
+
+uint8_t plain_region(const uint8_t *file, size_t file_len, uint32_t x, uint32_t y, uint32_t width, uint32_t height,
+                     const uint8_t *payload, size_t payload_len, uint8_t *memory, size_t memory_len)
+{
+    struct store store;
+    uint8_t number = store_open(&store, file, file_len, 1, memory, memory_len);
+    if (number != 0)
+        return number;
+    return store_upload_region(&store, memory, memory_len, 1, x, y, width, height, payload, payload_len);
+}

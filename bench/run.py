@@ -1,0 +1,140 @@
+"""Times the driver beside plain C in one run, prints the ratios and writes them to docs/BENCHMARKS.md.
+
+Run from the repository's root by `make bench`, which builds the libraries. `--compare` only checks that the driver and
+plain C put the same bytes out in a whole update of each panel.
+"""
+import os
+import re
+import shutil
+import subprocess
+import sys
+
+from demo.board import settings
+from simulator.panel import PANELS
+from tests.listing.reference import read_settings
+
+OUT = "target/bench"
+LIBRARIES = "target/staticlib"
+COMPILE = ["gcc", "-std=c99", "-O3", "-Wall", "-Wextra", "-pedantic", "-Iinclude"]
+LINE_ROUNDS, UPDATE_ROUNDS = 60, 100
+BUS_HZ = 12_000_000
+
+
+def build():
+    os.makedirs(OUT, exist_ok=True)
+    for name in ("plain", "plain_store"):  # files of their own, so that the compiler does not see the calls it is timed by
+        subprocess.run(COMPILE + ["-c", f"bench/{name}.c", "-o", f"{OUT}/{name}.o"], check=True)
+    subprocess.run(COMPILE + ["bench/line.c", f"{OUT}/plain.o", f"{LIBRARIES}/libclock_api.a", "-o", f"{OUT}/line"], check=True)
+    subprocess.run(COMPILE + ["bench/update.c", f"{OUT}/plain.o", f"{OUT}/plain_store.o", f"{LIBRARIES}/libfirmware.a",
+                              "-o", f"{OUT}/update"], check=True)
+    for panel in PANELS:
+        with open(settings_path(panel), "wb") as file:
+            file.write(settings(panel))
+
+
+def settings_path(panel):
+    return f"{OUT}/settings_{panel.name}"
+
+
+def numbers(command):
+    """The lines `name number` that a program prints."""
+    ran = subprocess.run(command, stdout=subprocess.PIPE, text=True)
+    if ran.returncode != 0:
+        sys.exit(f"{' '.join(command)}: {ran.stdout.strip()}")
+    return {name: float(value) for name, value in (line.split() for line in ran.stdout.splitlines())}
+
+
+def compare():
+    for panel in PANELS:
+        found = numbers([f"{OUT}/update", settings_path(panel), "1"])
+        print(f"panel {panel.name}: the driver and plain C put the same {found['bytes']:,.0f} bytes out and leave the same memory")
+
+
+def profile(panel):
+    """Where the instructions of a whole update go: name, thousands, share; or nothing where valgrind is not installed."""
+    if shutil.which("valgrind") is None:
+        return []
+    trace = f"{OUT}/callgrind"
+    subprocess.run(["valgrind", "--tool=callgrind", f"--callgrind-out-file={trace}", "--toggle-collect=store_update",
+                    f"{OUT}/update", settings_path(panel), "1"], check=True, stdout=subprocess.DEVNULL, stderr=subprocess.DEVNULL)
+    text = subprocess.run(["callgrind_annotate", trace], check=True, stdout=subprocess.PIPE, text=True).stdout
+    rows = re.findall(r"^ *([\d,]+) \( ?([\d.]+)%\) +\S*?([\w:]+) \[", text, re.M)
+    return [(name.split(":", 1)[-1].lstrip(":"), int(count.replace(",", "")) // 1000, share) for count, share, name in rows
+            if float(share) >= 1]
+
+
+def row(work, ours, theirs, unit, scale):
+    return f"| {work} | {ours / scale:,.1f} {unit} | {theirs / scale:,.1f} {unit} | {ours / theirs:.2f} |"
+
+
+def tables(panel):
+    """The timed work as rows of a table, and the figures that the text needs."""
+    line = numbers([f"{OUT}/line", str(LINE_ROUNDS)])
+    store = numbers([f"{OUT}/update", settings_path(panel), str(UPDATE_ROUNDS)])
+    rows = [
+        row("one line, against plain C dot by dot", line["line_library"], line["line_dots"], "ns", 1),
+        row("one line, against plain C byte by byte", line["line_library"], line["line_bytes"], "ns", 1),
+        row("a whole update: opening, upload, start, all polls", store["update_library"], store["update_plain"], "ms", 1e6),
+        row("the same, against plain C that trusts its state", store["update_library"], store["update_trusting"], "ms", 1e6),
+        row("opening and a bitmap upload", store["bitmap_library"], store["bitmap_plain"], "us", 1e3),
+        row("opening and the whole panel as one region", store["region_library"], store["region_plain"], "us", 1e3),
+    ]
+    return rows, line, store
+
+
+def wire_rows(panel, line, store):
+    """The time of the processor over the time that the same bytes take on the bus."""
+    lines = 4 * panel.frames * panel.height
+    body = panel.width // 4 + panel.height // 4
+    bus_line, bus_all = 8e9 * (body + 7) / BUS_HZ, 8e9 * store["bytes"] / BUS_HZ
+    return [
+        f"| one line built | {line['line_library']:.1f} ns | {bus_line / 1e3:.1f} us | {100 * line['line_library'] / bus_line:.3f} % |",
+        f"| one poll that hands out a line | {store['update_library'] / lines:.0f} ns | {bus_line / 1e3:.1f} us "
+        f"| {100 * store['update_library'] / lines / bus_line:.2f} % |",
+        f"| a whole update | {store['update_library'] / 1e6:.2f} ms | {bus_all / 1e6:.0f} ms "
+        f"| {100 * store['update_library'] / bus_all:.2f} % |",
+    ]
+
+
+def writes(panel):
+    """How many register writes a run with the panel's settings file hands out besides its lines."""
+    _, start, stop = read_settings(settings(panel))
+    return sum(kind == "write" for kind, _ in start + stop)
+
+
+def processor():
+    with open("/proc/cpuinfo", encoding="utf-8", errors="replace") as info:
+        return next((line.split(":")[1].strip() for line in info if line.startswith("model name")), "an unnamed processor")
+
+
+def document(panel):
+    rows, line, store = tables(panel)
+    with open("bench/BENCHMARKS.in.md", encoding="utf-8") as template:
+        text = template.read()
+    compiler = subprocess.run(["gcc", "--version"], stdout=subprocess.PIPE, text=True).stdout.splitlines()[0]
+    parts = {
+        "MACHINE": f"{processor()}; {compiler}",
+        "WRITES": str(writes(panel)),
+        "LINE_ROUNDS": str(LINE_ROUNDS), "UPDATE_ROUNDS": str(UPDATE_ROUNDS),
+        "RATIOS": "\n".join(rows),
+        "WIRE": "\n".join(wire_rows(panel, line, store)),
+        "PROFILE": "\n".join(f"| `{name}` | {count:,} | {share} % |" for name, count, share in profile(panel))
+                   or "| valgrind is not installed here | | |",
+    }
+    return re.sub(r"\{(\w+)\}", lambda found: parts[found.group(1)], text)
+
+
+def main():
+    if sys.argv[1:] not in ([], ["--compare"]):
+        sys.exit("usage: python3 -m bench.run [--compare]")
+    build()
+    if sys.argv[1:]:
+        return compare()
+    text = document(PANELS[2])
+    with open("docs/BENCHMARKS.md", "w", encoding="utf-8") as file:
+        file.write(text)
+    print(text)
+
+
+if __name__ == "__main__":
+    main()

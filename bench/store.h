@@ -1,0 +1,35 @@
+/*
+ * What is timed and compared, on a store of slots 0 and 1: the proved driver (crates/firmware) and the same work in
+ * plain C (plain_store.c).
+ */
+#ifndef STORE_H
+#define STORE_H
+
+#include <stddef.h>
+#include <stdint.h>
+
+/* Opens a store, uploads a bitmap to slot 1 and shows it. What goes to the panel stands in bus; answers its length. */
+size_t store_update(const uint8_t *settings, size_t settings_len, const uint8_t *bitmap, size_t bitmap_len,
+                    uint8_t *memory, size_t memory_len, uint8_t *bus, size_t bus_len);
+size_t plain_update(const uint8_t *settings, size_t settings_len, const uint8_t *bitmap, size_t bitmap_len,
+                    uint8_t *memory, size_t memory_len, uint8_t *bus, size_t bus_len);
+
+/* The same in plain C that trusts its state: a call does not test it. */
+size_t trusting_update(const uint8_t *settings, size_t settings_len, const uint8_t *bitmap, size_t bitmap_len,
+                       uint8_t *memory, size_t memory_len, uint8_t *bus, size_t bus_len);
+
+/* Opens a store and uploads a bitmap to slot 1: the upload's number. */
+uint8_t store_bitmap(const uint8_t *settings, size_t settings_len, const uint8_t *bitmap, size_t bitmap_len,
+                     uint8_t *memory, size_t memory_len);
+uint8_t plain_bitmap(const uint8_t *settings, size_t settings_len, const uint8_t *bitmap, size_t bitmap_len,
+                     uint8_t *memory, size_t memory_len);
+
+/* Opens a store and uploads a region of slot 1: the upload's number. */
+uint8_t store_region(const uint8_t *settings, size_t settings_len, uint32_t x, uint32_t y, uint32_t width,
+                     uint32_t height, const uint8_t *payload, size_t payload_len, uint8_t *memory,
+                     size_t memory_len);
+uint8_t plain_region(const uint8_t *settings, size_t settings_len, uint32_t x, uint32_t y, uint32_t width,
+                     uint32_t height, const uint8_t *payload, size_t payload_len, uint8_t *memory,
+                     size_t memory_len);
+
+#endif
