@@ -1,24 +1,31 @@
-# make demo   shows the driver at work
-# make test   runs every test, then proves everything from nothing (the gate)
-# make bench  compares the line builder with plain C
-.PHONY: demo test tests build bench clean
+# make demo       shows the driver at work on simulated panels; PANELS="1.44 2" picks some
+# make test       runs every test, then proves everything from nothing (the gate)
+# make tests      the tests outside Rattle alone
+# make bench      compares with plain C, and writes docs/BENCHMARKS.md
+# make ghosting   simulates a season of trainees' mistakes, and writes docs/GHOSTING.md
+.PHONY: demo test tests build bench ghosting clean
 
+SHELL = /bin/bash
 CFLAGS = -std=c99 -O2 -Wall -Wextra -pedantic
 LIBRARY = target/staticlib/libclock_api.a
 OUT = target/tests
+PYTHON = python3 -B
 
 demo:
+	@$(PYTHON) -m demo.board --only-arguments $(PANELS)
 	@mkdir -p target
-	@echo "Proving and building the program (about a minute the first time) ..."
-	@rt check settings_list >target/demo.log 2>&1 || { cat target/demo.log; exit 1; }
-	@python3 demo/listing.py
+	@echo "Proving and building the programs (some minutes the first time; a line for each crate) ..."
+	@set -o pipefail; rt check settings_list replay 2>&1 | tee target/demo.log | { grep --line-buffered '^rt: ' || true; } \
+	    || { cat target/demo.log; exit 1; }
+	@$(PYTHON) -m demo.board $(PANELS)
 
 test: tests
 	rt ci
 
-# What the tests run: the static library and the programs. Only proved crates are built.
+# What the tests run: the static libraries and the programs. Only proved crates are built.
 build:
 	rt staticlib clock_api
+	rt staticlib firmware
 	rt check settings_list bitmap_normal replay
 
 tests: build
@@ -29,17 +36,28 @@ tests: build
 	@echo "== the C example"
 	$(CC) $(CFLAGS) -Iinclude -o $(OUT)/firmware examples/firmware.c $(LIBRARY)
 	$(OUT)/firmware | diff tests/calls/example.expected -
+	@echo "== whole updates of the firmware loop against plain C"
+	$(PYTHON) -m bench.run --compare
 	@echo "== the listing program against an independent implementation"
-	python3 tests/listing/compare.py target/bin/settings_list
+	$(PYTHON) -m tests.listing.compare target/bin/settings_list
 	@echo "== bitmaps made by other tools, and damaged ones"
-	python3 tests/bitmaps/compare.py target/bin/bitmap_normal
+	$(PYTHON) -m tests.bitmaps.compare target/bin/bitmap_normal
 	@echo "== every public call on the store has a place in demand 3"
-	python3 tests/chain/calls.py
-	@echo "== whole runs through replay, with the sums read from the bytes handed out"
-	python3 tests/runs/sums.py target/bin/replay
+	$(PYTHON) tests/chain/calls.py
+	@echo "== random scripts of calls against an independent implementation, with the sums read from the bytes handed out"
+	$(PYTHON) -m tests.replay.compare target/bin/replay
+	@echo "== the picture of the crates, and the figures of GHOSTING.md"
+	$(PYTHON) docs/crates.py --check
+	$(PYTHON) -m ghosting.season --check
 
-bench: build
-	sh bench/line.sh
+bench:
+	rt staticlib clock_api
+	rt staticlib firmware
+	$(PYTHON) -m bench.run
+
+ghosting:
+	rt check replay
+	$(PYTHON) -m ghosting.season
 
 clean:
 	rm -rf target
