@@ -109,7 +109,7 @@ def processor():
 
 def document(panel):
     rows, line, store = tables(panel)
-    with open("bench/BENCHMARKS.in.md", encoding="utf-8") as template:
+    with open("bench/BENCHMARKS.template.md", encoding="utf-8") as template:
         text = template.read()
     compiler = subprocess.run(["gcc", "--version"], stdout=subprocess.PIPE, text=True).stdout.splitlines()[0]
     parts = {

@@ -1,0 +1,1 @@
+"""A season of updates with the mistakes that trainees make."""
