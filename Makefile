@@ -7,7 +7,7 @@
 
 SHELL = /bin/bash
 CFLAGS = -std=c99 -O2 -Wall -Wextra -pedantic
-LIBRARY = target/staticlib/libclock_api.a
+LIBRARY = target/staticlib/libstart_board.a
 OUT = target/tests
 PYTHON = python3 -B
 
@@ -24,8 +24,8 @@ test: tests
 
 # What the tests run: the static libraries and the programs. Only proved crates are built.
 build:
-	rt staticlib clock_api
-	rt staticlib firmware
+	rt staticlib start_board
+	rt staticlib update_loop
 	rt check settings_list bitmap_normal replay
 
 tests: build
@@ -36,7 +36,7 @@ tests: build
 	@echo "== the C example"
 	$(CC) $(CFLAGS) -Iinclude -o $(OUT)/firmware examples/firmware.c $(LIBRARY)
 	$(OUT)/firmware | diff tests/calls/example.expected -
-	@echo "== whole updates of the firmware loop against plain C"
+	@echo "== whole updates of the update loop against plain C"
 	$(PYTHON) -m bench.run --compare
 	@echo "== the listing program against an independent implementation"
 	$(PYTHON) -m tests.listing.compare target/bin/settings_list
@@ -46,13 +46,14 @@ tests: build
 	$(PYTHON) tests/chain/calls.py
 	@echo "== random scripts of calls against an independent implementation, with the sums read from the bytes handed out"
 	$(PYTHON) -m tests.replay.compare target/bin/replay
-	@echo "== the picture of the crates, and the figures of GHOSTING.md"
+	@echo "== the picture of the crates, the examples of FORMATS.md and the figures of GHOSTING.md"
 	$(PYTHON) docs/crates.py --check
+	$(PYTHON) -m tests.formats
 	$(PYTHON) -m ghosting.season --check
 
 bench:
-	rt staticlib clock_api
-	rt staticlib firmware
+	rt staticlib start_board
+	rt staticlib update_loop
 	$(PYTHON) -m bench.run
 
 ghosting:

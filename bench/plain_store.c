@@ -1,6 +1,6 @@
 /*
- * A store in plain C, as a careful engineer would write it: the state lies behind a pointer and changes in place,
- * and every call tests it first, file and all, as the rules ask (13). Dots of a region are set one by one.
+ * A store in plain C, as a careful engineer would write it: each call is given a pointer to the state and changes it in
+ * place, and tests it first, file and all, as the rules ask (13). Dots of a region are set one by one.
  */
 #include "plain.h"
 #include "store.h"
@@ -63,7 +63,7 @@ static size_t step_size(const uint8_t *file, size_t len, size_t at, const struct
     return 2u + data_length[reg];
 }
 
-/* Passes n steps; the index behind them, or 0. The registers that they write are marked in `written`. */
+/* Passes n steps; the index after them, or 0. The registers that they write are marked in `written`. */
 static size_t pass_steps(const uint8_t *file, size_t len, size_t at, unsigned n, const struct panel *panel,
                          unsigned *written)
 {

@@ -9,9 +9,8 @@ import shutil
 import subprocess
 import sys
 
-from demo.board import settings
+from simulator import settings
 from simulator.panel import PANELS
-from tests.listing.reference import read_settings
 
 OUT = "target/bench"
 LIBRARIES = "target/staticlib"
@@ -24,12 +23,12 @@ def build():
     os.makedirs(OUT, exist_ok=True)
     for name in ("plain", "plain_store"):  # files of their own, so that the compiler does not see the calls it is timed by
         subprocess.run(COMPILE + ["-c", f"bench/{name}.c", "-o", f"{OUT}/{name}.o"], check=True)
-    subprocess.run(COMPILE + ["bench/line.c", f"{OUT}/plain.o", f"{LIBRARIES}/libclock_api.a", "-o", f"{OUT}/line"], check=True)
-    subprocess.run(COMPILE + ["bench/update.c", f"{OUT}/plain.o", f"{OUT}/plain_store.o", f"{LIBRARIES}/libfirmware.a",
+    subprocess.run(COMPILE + ["bench/line.c", f"{OUT}/plain.o", f"{LIBRARIES}/libstart_board.a", "-o", f"{OUT}/line"], check=True)
+    subprocess.run(COMPILE + ["bench/update.c", f"{OUT}/plain.o", f"{OUT}/plain_store.o", f"{LIBRARIES}/libupdate_loop.a",
                               "-o", f"{OUT}/update"], check=True)
     for panel in PANELS:
         with open(settings_path(panel), "wb") as file:
-            file.write(settings(panel))
+            file.write(settings.read(panel))
 
 
 def settings_path(panel):
@@ -96,12 +95,6 @@ def wire_rows(panel, line, store):
     ]
 
 
-def writes(panel):
-    """How many register writes a run with the panel's settings file hands out besides its lines."""
-    _, start, stop = read_settings(settings(panel))
-    return sum(kind == "write" for kind, _ in start + stop)
-
-
 def processor():
     with open("/proc/cpuinfo", encoding="utf-8", errors="replace") as info:
         return next((line.split(":")[1].strip() for line in info if line.startswith("model name")), "an unnamed processor")
@@ -114,7 +107,7 @@ def document(panel):
     compiler = subprocess.run(["gcc", "--version"], stdout=subprocess.PIPE, text=True).stdout.splitlines()[0]
     parts = {
         "MACHINE": f"{processor()}; {compiler}",
-        "WRITES": str(writes(panel)),
+        "WRITES": str(settings.writes(settings.read(panel))),
         "LINE_ROUNDS": str(LINE_ROUNDS), "UPDATE_ROUNDS": str(UPDATE_ROUNDS),
         "RATIOS": "\n".join(rows),
         "WIRE": "\n".join(wire_rows(panel, line, store)),

@@ -1,5 +1,5 @@
 /*
- * What is timed and compared, on a store of slots 0 and 1: the proved driver (crates/firmware) and the same work in
+ * What is timed and compared, on a store of slots 0 and 1: the proved driver (crates/update_loop) and the same work in
  * plain C (plain_store.c).
  */
 #ifndef STORE_H

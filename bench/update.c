@@ -1,5 +1,5 @@
 /*
- * A whole update, a bitmap upload and the upload of the whole panel as one region: the library (crates/firmware) beside
+ * A whole update, a bitmap upload and the upload of the whole panel as one region: the library (crates/update_loop) beside
  * plain C (plain_store.c), in one run. The versions take turns; the best round of each counts. They must put the same
  * bytes out and leave the same memory.
  *

@@ -10,11 +10,10 @@ from demo import digits, picture
 from demo.output import OutputClosed, Progress, board_text, discard_output, open_streams, say, say_wrapped, side_by_side
 from demo.timeline import timeline
 from demo.update import STAGES, Clock, Unexpected, Update, accepted
+from simulator import bitmap, settings
 from simulator.panel import PANELS, Glass
 from simulator.replay import PROGRAM, Replay
-from tests.bitmaps import reference
 
-SETTINGS = {"1.44": "demo/settings_1_44.hex", "2": "demo/settings_2_0.hex", "2.7": "demo/settings_2_7.hex"}
 LISTING_PROGRAM = "target/bin/settings_list"
 FOLDER = "target/demo"
 
@@ -67,7 +66,7 @@ def show_panel(panel, whole_listing):
     """Both bibs on a panel that was opened anew."""
     heading = "%s inch panel, %d x %d dots" % (panel.name, panel.width, panel.height)
     say("\n\n%s\n%s\n" % (heading, "=" * len(heading)))
-    file = settings(panel)
+    file = settings.read(panel)
     say(listing(panel, file, whole_listing))
     bib17, bib18 = digits.bib(panel, "17"), digits.bib(panel, "18")
     second = digits.boxes(panel, "18")[1]
@@ -86,27 +85,21 @@ def show_panel(panel, whole_listing):
         show_bib(replay, glass, clock, 2, "18", bib18, {2 * panel.frames: 20})  # oversleeps before stage 3
 
 
-def settings(panel):
-    """The bytes of a settings file, which is kept as hexadecimal text; # begins a comment."""
-    with open(SETTINGS[panel.name], encoding="ascii") as text:
-        return bytes.fromhex(" ".join(line.split("#")[0] for line in text))
-
-
 def listing(panel, file, whole):
     """What the proved program lists of a settings file: the start steps beside the stop steps, or how many there are."""
     ran = subprocess.run([LISTING_PROGRAM], input=file, stdout=subprocess.PIPE)
     lines = ran.stdout.decode("ascii").splitlines()
     stop = next((k for k, line in enumerate(lines) if line.startswith("stop ")), None)
     if stop is None:
-        raise Unexpected("the listing of %s is '%s'" % (SETTINGS[panel.name], " ".join(lines)))
-    title = "Settings file %s, %d bytes" % (SETTINGS[panel.name], len(file))
+        raise Unexpected("the listing of %s is '%s'" % (settings.path(panel), " ".join(lines)))
+    title = "Settings file %s, %d bytes" % (settings.path(panel), len(file))
     if not whole:
         return "%s: %s, %s" % (title, lines[1], lines[stop])
     return "%s, as settings_list reads it:\n\n%s" % (title, side_by_side(lines[1:stop], lines[stop:], "    %-38s%s"))
 
 
 def upload_bitmap(replay, panel, slot, drawn):
-    accepted(replay, "bitmap %d %s" % (slot, reference.write(panel.name, drawn).hex()))
+    accepted(replay, "bitmap %d %s" % (slot, bitmap.write(panel, drawn).hex()))
 
 
 def upload_region(replay, slot, drawn, box):
@@ -129,7 +122,7 @@ def show_bib(replay, glass, clock, slot, number, drawn, oversleep):
 def check(replay, glass, update, drawn):
     """The glass must show what the driver's writer gives back for slot 0, and what was drawn; every dot must be at rest."""
     panel, shown = glass.panel, glass.picture()
-    slot0 = reference.read(panel.name, bytes.fromhex(accepted(replay, "write 0")))
+    slot0 = bitmap.read(panel, bytes.fromhex(accepted(replay, "write 0")))
     for holds, trouble in (
             (update.lines == STAGES * panel.frames * panel.height, "was sent %d lines" % update.lines),
             (shown == slot0, "does not show the picture of slot 0"),

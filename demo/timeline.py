@@ -56,5 +56,5 @@ def late_frames(frames):
 
 
 def wraps(events):
-    return [(after.moment, "tick wraps: %d, then %d" % (before.moment % WRAP, after.moment % WRAP))
-            for before, after in zip(events, events[1:]) if before.moment // WRAP != after.moment // WRAP]
+    return [(event.moment, "tick wraps: %d, then %d" % (before.moment % WRAP, event.moment % WRAP))
+            for before, event in zip(events, events[1:]) if before.moment // WRAP != event.moment // WRAP]

@@ -96,7 +96,7 @@ def polled(replay, moment):
 
 
 def accepted(replay, call):
-    """Makes a call that must be accepted, and gives back what stands behind the 0 of its answer."""
+    """Makes a call that must be accepted, and gives back what follows the 0 of its answer."""
     number, _, rest = replay.call(call).partition(" ")
     if number != "0":
         raise Unexpected("the answer to '%s' was '%s'" % (call.split()[0], number))

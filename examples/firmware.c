@@ -4,7 +4,7 @@
  * lines of an update, frame by frame. The clock and the bus are simulated here.
  *
  *   gcc -std=c99 -Wall -Wextra -pedantic -Iinclude examples/firmware.c \
- *       target/staticlib/libclock_api.a -o target/tests/firmware
+ *       target/staticlib/libstart_board.a -o target/tests/firmware
  */
 #include <stdio.h>
 

@@ -33,8 +33,8 @@ def lateness_figures(results):
     made.update({"missing": mean(missing), "missing_most": str(max(missing))})
     made["this_3"] = share(sum(ms <= model.SHORT_LATE[1] for ms in model.lateness(results.frames["this"])), model.DAYS * model.BIBS)
     held_up = model.begins_on_schedule([0, model.LONG_LATE[1]] + [0] * (model.FRAMES - 2))
-    behind = [begin - model.FRAME * i for i, begin in enumerate(held_up)]
-    made["made_good"] = listed([ms for ms in behind[2:] if ms > 0])
+    late = [begin - model.FRAME * i for i, begin in enumerate(held_up)]
+    made["made_good"] = listed([ms for ms in late[2:] if ms > 0])
     return made
 
 
@@ -91,8 +91,8 @@ def region_rows(results):
     rows = []
     for (x, width, _), answer in zip(mistakes.REGIONS, results.regions):
         passes = mistakes.passes_in_32_bits(x, width)
-        behind = count(mistakes.bytes_behind_the_store(x, width)) if passes else "0"
-        cells = (count(x), count(width), count((x + width) % mistakes.TICKS), "passes" if passes else "refused", behind, str(answer))
+        painted = count(mistakes.bytes_after_the_store(x, width)) if passes else "0"
+        cells = (count(x), count(width), count((x + width) % mistakes.TICKS), "passes" if passes else "refused", painted, str(answer))
         rows.append("| %s |" % " | ".join(cells))
     huge = {answer for (_, width, _), answer in zip(mistakes.REGIONS, results.regions) if width > mistakes.TICKS // 2}
     return {"regions": "\n".join(rows), "region_answer": " or ".join(map(str, sorted(huge)))}

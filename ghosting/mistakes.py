@@ -57,10 +57,10 @@ def wraps(season):
 
 # ---- pauses by a timetable
 
-def timetable_pauses(pauses, late, behind):
+def timetable_pauses(pauses, late, delay):
     """Each pause as ordered and as the panel gets it, where every write has a moment in a timetable. What comes before the first
-    pause is `behind` its own moment by some ms."""
-    planned, now, given = 0, behind, []
+    pause is `delay` ms later than its own moment."""
+    planned, now, given = 0, delay, []
     for pause, held_up in zip(pauses, late):
         planned += pause
         then = now if now >= planned else planned + held_up
@@ -89,7 +89,7 @@ def passes_in_32_bits(x, width):
     return width >= 1 and (x + width) % TICKS <= bibs.PANEL.width
 
 
-def bytes_behind_the_store(x, width):
-    """The bytes behind the memory of slots 0 and 1 that a region of row 0 in slot 1 reaches, with 32 bits for a dot's number."""
+def bytes_after_the_store(x, width):
+    """The bytes after the memory of slots 0 and 1 that a region of row 0 in slot 1 reaches, with 32 bits for a dot's number."""
     slot = bibs.PANEL.width // 8 * bibs.PANEL.height
     return max((min(x + width, TICKS) - 1) // 8 + 1 - slot, 0)

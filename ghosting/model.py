@@ -127,7 +127,7 @@ def skipping(update):
 
 
 def lateness(frames):
-    """By how many ms the last line of each update in a race is behind the long beep."""
+    """How many ms after the long beep the last line of each update in a race goes out."""
     return [made.last - ON_TIME for made in frames[:-1]]
 
 

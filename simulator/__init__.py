@@ -1,1 +1,1 @@
-"""A simulated panel, and the way to make calls on the driver from Python."""
+"""A simulated panel, what it is given (settings files, bitmaps), and the way to make calls on the driver from Python."""

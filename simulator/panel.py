@@ -1,4 +1,4 @@
-"""The three panels as the rules give them, and a simulated one that knows nothing but the bytes it is sent."""
+"""The three panels, for every simulation; and a simulated one that knows nothing but the bytes it is sent."""
 from collections import namedtuple
 
 # width and height in dots, frames per stage, data of registers 0x01 and 0x04
@@ -33,9 +33,9 @@ class Glass:
             return
         self.lines += 1
         end = 3 + self.panel.width // 8
-        even, behind = handed[3:end], handed[end:]
-        scan = behind[:self.panel.height // 4]
-        odd = behind[len(scan):len(scan) + len(even)]
+        even, rest = handed[3:end], handed[end:]
+        scan = rest[:self.panel.height // 4]
+        odd = rest[len(scan):len(scan) + len(even)]
         pushes = self.pushes(even, odd)
         for y in self.rows(scan):
             sums = [a + b for a, b in zip(self.sums[y], pushes)]

@@ -100,7 +100,7 @@ def _short(data):
     return data[:700].hex(" ").upper() + (" ..." if len(data) > 700 else "")
 
 
-def path_argument():
+def path_argument(module):
     if len(sys.argv) != 2:
-        sys.exit(f"usage: python3 {sys.argv[0]} PROGRAM")
+        sys.exit(f"usage, from the repository's root: python3 -m {module} PROGRAM")
     return sys.argv[1]

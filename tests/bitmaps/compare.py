@@ -6,7 +6,8 @@ import pathlib
 import random
 import sys
 
-from tests.bitmaps.reference import HEADER, PANELS, REFUSED, file_length, normal, write
+from tests.bitmaps.reference import HEADER, REFUSED, file_length, normal, write
+from tests.panels import PANELS
 from tests.program import Comparison, path_argument
 
 HERE = pathlib.Path(__file__).resolve().parent
@@ -31,7 +32,7 @@ def put(file, at, value, n=4):
 
 def good_file(panel, rng):
     """A good file: everything is random that may be, or as often what real tools put there."""
-    width, height, stride = PANELS[panel]
+    width, height, stride = panel.width, panel.height, panel.stride
     length = file_length(panel)
     file = rng.randbytes(length)
     file = b"BM" + file[2:]
@@ -47,7 +48,7 @@ def good_file(panel, rng):
 
 def broken_sizes(panel, file):
     """Files that break a rule of the fields up to the height, by what is wrong with them."""
-    width, height, stride = PANELS[panel]
+    width, height, stride = panel.width, panel.height, panel.stride
     length, body = file_length(panel), height * stride
     return {
         "BM as MB": put(file, 0, 0x424D, 2),
@@ -81,8 +82,8 @@ def broken_sizes(panel, file):
 
 
 def broken_forms(panel, file):
-    """Files that break a rule of the fields behind the height."""
-    width, height, stride = PANELS[panel]
+    """Files that break a rule of the fields after the height."""
+    width, height, stride = panel.width, panel.height, panel.stride
     length, body = file_length(panel), height * stride
     broken = {
         "planes 0": put(file, 26, 0, 2),
@@ -113,8 +114,7 @@ def broken_forms(panel, file):
 
 def free_fields(panel, file):
     """Good files whose free fields hold what real tools or nobody puts there."""
-    _, height, stride = PANELS[panel]
-    body = height * stride
+    body = panel.height * panel.stride
     return {
         "size 0": put(file, 34, 0),
         "size of the body": put(file, 34, body),
@@ -151,9 +151,10 @@ class BitmapTest(Comparison):
 
     def kept_files(self):
         """Files of real tools: the expected file comes from the source picture alone."""
-        for panel, name in KEPT.items():
+        for panel in PANELS:
+            name = KEPT[panel.name]
             size, picture = picture_of_pbm((HERE / f"{name}.pbm").read_bytes())
-            if size != PANELS[panel][:2]:
+            if size != (panel.width, panel.height):
                 self.fail(f"{name}.pbm has another size")
             expected = write(panel, picture)
             for tool in ("pillow", "netpbm"):
@@ -165,55 +166,55 @@ class BitmapTest(Comparison):
     def good_files(self, panel):
         """Random free fields, palette and padding; all white, all black."""
         for i in range(20):
-            self.taken(f"good file {i}, panel {panel}", good_file(panel, self.rng))
-        width, height, _ = PANELS[panel]
-        self.taken(f"white, panel {panel}", write(panel, [b"\xFF" * (width // 8)] * height))
-        self.taken(f"black, panel {panel}", write(panel, [bytes(width // 8)] * height))
+            self.taken(f"good file {i}, panel {panel.name}", good_file(panel, self.rng))
+        row_bytes = panel.width // 8
+        self.taken(f"white, panel {panel.name}", write(panel, [b"\xFF" * row_bytes] * panel.height))
+        self.taken(f"black, panel {panel.name}", write(panel, [bytes(row_bytes)] * panel.height))
 
     def fields(self, panel):
         """One rule after another broken, free fields that may hold anything, and each header byte damaged."""
         file = good_file(panel, self.rng)
-        self.taken(f"before the damage, panel {panel}", file)
+        self.taken(f"before the damage, panel {panel.name}", file)
         for name, bad in {**broken_sizes(panel, file), **broken_forms(panel, file)}.items():
-            self.refused_file(f"{name}, panel {panel}", bad)
+            self.refused_file(f"{name}, panel {panel.name}", bad)
         for name, good in free_fields(panel, file).items():
-            self.taken(f"{name}, panel {panel}", good)
+            self.taken(f"{name}, panel {panel.name}", good)
         for at in range(HEADER):
             file = good_file(panel, self.rng)
             damaged = put(file, at, file[at] ^ self.rng.randint(1, 255), 1)
-            self.compare(f"header byte {at} damaged, panel {panel}", damaged)
+            self.compare(f"header byte {at} damaged, panel {panel.name}", damaged)
 
     def lengths(self, panel):
         """The length finds the panel, and the header must fit it."""
-        length, stride = file_length(panel), PANELS[panel][2]
+        length, stride = file_length(panel), panel.stride
         file = good_file(panel, self.rng)
         for other in PANELS:
             if other != panel:
                 other_length = file_length(other)
                 changed = file[:other_length].ljust(other_length, b"\0")
-                self.refused_file(f"panel {panel} at the length of {other}", changed)
-                self.refused_file(f"panel {panel} at the length of {other}, noted", put(changed, 2, other_length))
+                self.refused_file(f"panel {panel.name} at the length of {other.name}", changed)
+                self.refused_file(f"panel {panel.name} at the length of {other.name}, noted", put(changed, 2, other_length))
         for wrong in (1, 2, 30, 53, 54, 61, 62, 63, HEADER + stride, length - stride, length - 14, length - 2, length - 1,
                       length + 1, length + 2, length + 4, 8191, 8192, 65536, 65536 + length):
             changed = file[:wrong].ljust(wrong, b"\0")
-            self.refused_file(f"panel {panel} with {wrong} bytes", changed)
+            self.refused_file(f"panel {panel.name} with {wrong} bytes", changed)
             if wrong >= 6:
-                self.refused_file(f"panel {panel} with {wrong} bytes, noted", put(changed, 2, wrong))
+                self.refused_file(f"panel {panel.name} with {wrong} bytes, noted", put(changed, 2, wrong))
 
     def others(self, panel):
         """Long inputs, and inputs that are no bitmaps."""
         file = good_file(panel, self.rng)
-        self.refused_file(f"a megabyte, panel {panel}", file.ljust(MEGABYTE, b"\0"))
-        self.refused_file(f"a megabyte, panel {panel}, noted", put(file.ljust(MEGABYTE, b"\0"), 2, MEGABYTE))
-        self.refused_file(f"a megabyte, panel {panel}, as a file", file.ljust(MEGABYTE, b"\0"), "file")
-        self.refused_file(f"a file twice, panel {panel}", file + file)
-        self.refused_file(f"zeros, panel {panel}", bytes(len(file)))
-        self.refused_file(f"random bytes, panel {panel}", self.rng.randbytes(len(file)))
-        self.refused_file(f"the source picture of {panel}", (HERE / f"{KEPT[panel]}.pbm").read_bytes())
+        self.refused_file(f"a megabyte, panel {panel.name}", file.ljust(MEGABYTE, b"\0"))
+        self.refused_file(f"a megabyte, panel {panel.name}, noted", put(file.ljust(MEGABYTE, b"\0"), 2, MEGABYTE))
+        self.refused_file(f"a megabyte, panel {panel.name}, as a file", file.ljust(MEGABYTE, b"\0"), "file")
+        self.refused_file(f"a file twice, panel {panel.name}", file + file)
+        self.refused_file(f"zeros, panel {panel.name}", bytes(len(file)))
+        self.refused_file(f"random bytes, panel {panel.name}", self.rng.randbytes(len(file)))
+        self.refused_file(f"the source picture of {panel.name}", (HERE / f"{KEPT[panel.name]}.pbm").read_bytes())
 
 
 def main():
-    test = BitmapTest(path_argument())
+    test = BitmapTest(path_argument("tests.bitmaps.compare"))
     test.kept_files()
     for panel in PANELS:
         test.good_files(panel)
@@ -222,7 +223,7 @@ def main():
         test.others(panel)
     test.refused_file("no input", b"")
     test.refused_file("no input, as a file", b"", "file")
-    test.refused_file("a megabyte in pieces", good_file("2.7", test.rng).ljust(MEGABYTE, b"\0"), 10007)
+    test.refused_file("a megabyte in pieces", good_file(PANELS[2], test.rng).ljust(MEGABYTE, b"\0"), 10007)
     test.refused_file("a megabyte of random bytes", test.rng.randbytes(MEGABYTE))
     sys.exit(test.summary("bitmap_normal", 300))
 

@@ -1,23 +1,17 @@
 """A second, plain reader and writer of the panels' bitmap files, written from the rules.
 
-By hand: python3 tests/bitmaps/reference.py < FILE.bmp > NORMAL.bmp
+By hand: python3 -m tests.bitmaps.reference < FILE.bmp > NORMAL.bmp
 """
 import sys
 
-REFUSED = b"refused 4\n"
+from tests.panels import PANELS
 
-# name: (X, Y, stride)
-PANELS = {
-    "1.44": (128, 96, 16),
-    "2": (200, 96, 28),
-    "2.7": (264, 176, 36),
-}
+REFUSED = b"refused 4\n"
 HEADER = 62
 
 
 def file_length(panel):
-    _, height, stride = PANELS[panel]
-    return HEADER + height * stride
+    return HEADER + panel.height * panel.stride
 
 
 def panel_of(length):
@@ -34,7 +28,7 @@ def number(file, at, n):
 
 def read(panel, file):
     """The picture: rows from the top, each X/8 bytes, a 1 is white. None if a rule is broken."""
-    width, height, stride = PANELS[panel]
+    width, height, stride = panel.width, panel.height, panel.stride
     if len(file) != file_length(panel):
         return None
     if file[0:2] != b"BM":
@@ -57,7 +51,7 @@ def read(panel, file):
 
 def write(panel, rows):
     """The normal form of a picture's file."""
-    width, height, stride = PANELS[panel]
+    width, height, stride = panel.width, panel.height, panel.stride
     length = file_length(panel)
     header = b"BM"
     for n, value in [(4, length), (4, 0), (4, 62), (4, 40), (4, width), (4, height), (2, 1), (2, 1), (4, 0),

@@ -7,7 +7,8 @@ import random
 import re
 import sys
 
-from tests.listing.reference import DATA_LENGTH, PANELS, REFUSED, listing
+from tests.listing.reference import DATA_LENGTH, REFUSED, listing
+from tests.panels import PANELS
 from tests.program import Comparison, path_argument
 
 LIMITS = pathlib.Path(__file__).resolve().parent.parent / "limits.inc"
@@ -36,11 +37,10 @@ OTHERS = [
 
 
 def write(panel, register, rng=None):
-    _, channel, gate_source = PANELS[panel]
     if register == 0x01:
-        data = channel
+        data = panel.channels
     elif register == 0x04:
-        data = gate_source
+        data = panel.level
     else:
         data = rng.randbytes(DATA_LENGTH[register])
     return bytes([0x57, register]) + data
@@ -53,12 +53,12 @@ def step(panel, rng):
 
 
 def good_file(rng):
-    panel = rng.randrange(3)
+    panel = PANELS[rng.randrange(3)]
     start = [write(panel, 0x01), write(panel, 0x04)]
     start += [step(panel, rng) for _ in range(rng.choice([0, 1, 3, rng.randint(0, 30), 30]))]
     rng.shuffle(start)
     stop = [step(panel, rng) for _ in range(rng.choice([0, 1, 2, rng.randint(0, 32), 32]))]
-    return (bytes([1, panel, len(start)]) + b"".join(start)
+    return (bytes([1, panel.code, len(start)]) + b"".join(start)
             + bytes([len(stop)]) + b"".join(stop))
 
 
@@ -66,7 +66,7 @@ def longest_file(panel, place=31):
     """637 bytes: 63 writes of 0x01 and one of 0x04, which is start step number place."""
     start = [write(panel, 0x01)] * 32
     start[place] = write(panel, 0x04)
-    return bytes([1, panel, 32]) + b"".join(start) + bytes([32]) + write(panel, 0x01) * 32
+    return bytes([1, panel.code, 32]) + b"".join(start) + bytes([32]) + write(panel, 0x01) * 32
 
 
 def damaged(file, rng):
@@ -107,7 +107,7 @@ def longest_listing():
 
     start = best("start", sections(32), 2, True)
     stop = best("stop", sections(32), 0, False)
-    name = max(len(f"panel {PANELS[panel][0]}\n") for panel in PANELS)
+    name = max(len(f"panel {panel.name}\n") for panel in PANELS)
     return max(name + a_text + b_text for a, a_text in start.items() for b, b_text in stop.items()
                if 4 + a + b <= LONGEST_FILE)
 
@@ -120,15 +120,15 @@ def limit_files():
         sys.exit("limits.inc has a line of another form")
     for number, tokens, what in rows:
         for panel in PANELS:
-            yield f"{what}, panel {panel}", from_tokens(tokens, panel), number == "0"
+            yield f"{what}, panel {panel.name}", from_tokens(tokens, panel), number == "0"
 
 
 def from_tokens(tokens, panel):
-    other = (panel + 1) % 3
-    useless = b"\x00" if PANELS[panel][2] == b"\x03" else b"\x03"
+    other = PANELS[(panel.code + 1) % 3]
+    useless = b"\x00" if panel.level == b"\x03" else b"\x03"
     letters = {
-        "P": bytes([panel]),
-        "Q": bytes([other]),
+        "P": bytes([panel.code]),
+        "Q": bytes([other.code]),
         "A": write(panel, 0x01),
         "a": write(other, 0x01),
         "G": write(panel, 0x04),
@@ -181,13 +181,13 @@ class ListingTest(Comparison):
                 file = longest_file(panel, place)
                 if len(file) != LONGEST_FILE:
                     self.fail(f"the longest file has {len(file)} bytes")
-                self.compare(f"longest file, panel {panel}, 0x04 at {place}", file)
+                self.compare(f"longest file, panel {panel.name}, 0x04 at {place}", file)
         for by in ("file", 1, 100, 636):
-            self.compare(f"longest file, by {by}", longest_file(0), by)
-        text = self.compare("longest listing", longest_file(0))
+            self.compare(f"longest file, by {by}", longest_file(PANELS[0]), by)
+        text = self.compare("longest listing", longest_file(PANELS[0]))
         longest = longest_listing()
-        if len(listing(longest_file(0))) != longest:
-            self.fail(f"the longest listing has {longest} bytes, not {len(listing(longest_file(0)))}")
+        if len(listing(longest_file(PANELS[0]))) != longest:
+            self.fail(f"the longest listing has {longest} bytes, not {len(listing(longest_file(PANELS[0])))}")
         print(f"longest listing: {longest} bytes, written {len(text)} (panel 1.44, 32 start and 32 stop steps, "
               "63 writes of 0x01 and one of 0x04, a file of 637 bytes)")
 
@@ -201,7 +201,7 @@ class ListingTest(Comparison):
             for at in range(len(file)):
                 self.refused_file(f"{name} cut at {at}", file[:at])
         for at in self.rng.sample(range(LONGEST_FILE), 30):
-            self.refused_file(f"longest file cut at {at}", longest_file(at % 3)[:at])
+            self.refused_file(f"longest file cut at {at}", longest_file(PANELS[at % 3])[:at])
         for i in range(30):
             self.refused_file(f"extended file {i}", good_file(self.rng) + self.rng.randbytes(self.rng.randint(1, 40)))
 
@@ -219,18 +219,18 @@ class ListingTest(Comparison):
         self.refused_file("no input", b"")
         self.refused_file("no input, as a file", b"", "file")
         for length in (638, 639, 640, 641, 1023, 1024, 1025, 4095, 4096, 4097, 8192, 65535, 65536, 65536 + 637, MEGABYTE):
-            self.refused_file(f"longest file and zeros, {length} bytes", longest_file(2).ljust(length, b"\0"))
+            self.refused_file(f"longest file and zeros, {length} bytes", longest_file(PANELS[2]).ljust(length, b"\0"))
             self.refused_file(f"example and zeros, {length} bytes", EXAMPLE.ljust(length, b"\0"))
-        self.refused_file("a megabyte from a file", longest_file(1).ljust(MEGABYTE, b"\0"), "file")
-        self.refused_file("a megabyte in pieces", longest_file(1).ljust(MEGABYTE, b"\0"), 10007)
+        self.refused_file("a megabyte from a file", longest_file(PANELS[1]).ljust(MEGABYTE, b"\0"), "file")
+        self.refused_file("a megabyte in pieces", longest_file(PANELS[1]).ljust(MEGABYTE, b"\0"), 10007)
         self.refused_file("a megabyte of the example", (EXAMPLE * MEGABYTE)[:MEGABYTE])
-        self.refused_file("a megabyte of steps", (longest_file(0)[:-1] + write(0, 1) * MEGABYTE)[:MEGABYTE])
+        self.refused_file("a megabyte of steps", (longest_file(PANELS[0])[:-1] + write(PANELS[0], 1) * MEGABYTE)[:MEGABYTE])
         self.refused_file("a megabyte of random bytes", self.rng.randbytes(MEGABYTE))
         self.refused_file("a megabyte of zeros", bytes(MEGABYTE))
 
 
 def main():
-    test = ListingTest(path_argument())
+    test = ListingTest(path_argument("tests.listing.compare"))
     test.typed_by_hand()
     test.longest()
     test.random_files()

@@ -1,17 +1,12 @@
 """A second, plain implementation of the settings listing, written from the rules.
 
-By hand: python3 tests/listing/reference.py < FILE
+By hand: python3 -m tests.listing.reference < FILE
 """
 import sys
 
-REFUSED = b"refused 2\n"
+from tests.panels import PANELS
 
-# code: (name, data of register 0x01, data of register 0x04)
-PANELS = {
-    0: ("1.44", bytes.fromhex("00000000000FFF00"), bytes.fromhex("03")),
-    1: ("2", bytes.fromhex("0000000001FFE000"), bytes.fromhex("03")),
-    2: ("2.7", bytes.fromhex("0000007FFFFE0000"), bytes.fromhex("00")),
-}
+REFUSED = b"refused 2\n"
 
 DATA_LENGTH = {1: 8, 2: 1, 3: 1, 4: 1, 5: 1, 6: 1, 7: 1, 8: 1, 9: 2}
 
@@ -38,7 +33,6 @@ class Reader:
 
 def read_steps(reader, count, panel):
     """The steps as pairs: ("write", register and data) or ("wait", ms)."""
-    _, channel, gate_source = PANELS[panel]
     steps = []
     for _ in range(count):
         kind = reader.byte()
@@ -47,9 +41,9 @@ def read_steps(reader, count, panel):
             if register not in DATA_LENGTH:
                 raise Refused
             data = reader.take(DATA_LENGTH[register])
-            if register == 0x01 and data != channel:
+            if register == 0x01 and data != panel.channels:
                 raise Refused
-            if register == 0x04 and data != gate_source:
+            if register == 0x04 and data != panel.level:
                 raise Refused
             steps.append(("write", bytes([register]) + data))
         elif kind == 0x44:
@@ -63,12 +57,14 @@ def read_steps(reader, count, panel):
 
 
 def read_settings(file):
+    """The panel, the start steps and the stop steps."""
     reader = Reader(file)
     if reader.byte() != 1:
         raise Refused
-    panel = reader.byte()
-    if panel not in PANELS:
+    code = reader.byte()
+    if code >= len(PANELS):
         raise Refused
+    panel = PANELS[code]
 
     start_count = reader.byte()
     if not 2 <= start_count <= 32:
@@ -94,7 +90,7 @@ def listing(file):
         panel, start, stop = read_settings(file)
     except Refused:
         return REFUSED
-    lines = ["panel " + PANELS[panel][0]]
+    lines = ["panel " + panel.name]
     for name, steps in (("start", start), ("stop", stop)):
         lines.append(f"{name} {len(steps)}")
         for kind, value in steps:

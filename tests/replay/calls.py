@@ -3,8 +3,8 @@ by where its store stands."""
 import random
 from collections import Counter
 
-from simulator.panel import PANELS
 from tests.bitmaps import reference as bitmaps
+from tests.panels import PANELS
 from tests.replay import inputs, reference
 
 BACK = 2 ** 31  # the smallest step that is refused
@@ -17,7 +17,7 @@ class Script:
         self.store = reference.Store()
         self.calls = []
         self.answers = []        # by the reference
-        self.typed = {}          # call number: an answer typed by hand; behind a * anything may follow
+        self.typed = {}          # call number: an answer typed by hand; after a * anything may follow
         self.facts = []          # what, found, typed by hand: found without the program
         self.shown = {}          # call number of a done: the shown picture from then on
         self.places = Counter()  # how often something rare was reached
@@ -157,7 +157,7 @@ def upload_to_slot_of_run(script):
 def write(script):
     rng = script.rng
     slot = rng.randint(0, script.store.slots) if rng.random() < 0.8 else any_slot(script)
-    exact = bitmaps.file_length(any_panel(script).name)
+    exact = bitmaps.file_length(any_panel(script))
     length = rng.choice((None, None, exact, exact - 1, min(exact + 1, 6398), 0, 6398, rng.randint(0, 6398)))
     script.call(f"write {slot}" if length is None else f"write {slot} {length}")
 

@@ -9,7 +9,8 @@ import sys
 import time
 from collections import Counter
 
-from simulator.panel import PANELS, Glass
+from simulator.panel import Glass
+from tests.panels import PANELS
 from tests.program import Comparison
 from tests.replay import examples, reference, scripts
 

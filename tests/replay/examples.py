@@ -1,5 +1,6 @@
 """Fixed scripts. Their answers were typed from the rules; they come neither from the program nor from the reference."""
-from simulator.panel import PANELS, Glass
+from simulator.panel import Glass
+from tests.panels import PANELS
 from tests.replay.calls import Script
 
 FILE = "01 00 02 57 01 00 00 00 00 00 0F FF 00 57 04 03 01 44 00 0F".replace(" ", "")  # 1.44 inch, a wait of 15 ms to stop
@@ -44,7 +45,7 @@ def line_0(even, odd, others):
 
 
 def dot_codes(script):
-    """A row that begins with the dots B4 and is white behind them: once as the new picture, then as both."""
+    """A row that begins with the dots B4 and is white after them: once as the new picture, then as both."""
     script.expect(f"open 1 {FILE}", "0")
     script.expect("region 1 0 0 8 1 B4", "0")
     new = {32: line_0("F0", "3C", "FF"), 48: line_0("AF", "EB", "AA")}

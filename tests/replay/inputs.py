@@ -1,7 +1,7 @@
 """Random settings files, pictures, bitmaps and regions: good ones at all edges, and ones with a fault."""
-from simulator.panel import PANELS
 from tests.bitmaps import reference as bitmaps
 from tests.listing.reference import DATA_LENGTH
+from tests.panels import PANELS
 
 HUGE = (2 ** 32 - 1, 2 ** 32 - 2, 2 ** 32 - 7, 2 ** 31, 2 ** 31 - 1, 65536, 65535, 256)
 
@@ -41,10 +41,10 @@ def every_register(rng, panel):
 def start_steps(rng, panel):
     needed = [write_step(rng, panel, 0x01), write_step(rng, panel, 0x04)]
     rng.shuffle(needed)
-    shape = rng.choice(("shortest", "few", "full", "waits behind", "waits before", "every register"))
+    shape = rng.choice(("shortest", "few", "full", "waits after", "waits before", "every register"))
     if shape == "shortest":
         return needed
-    if shape == "waits behind":
+    if shape == "waits after":
         return needed + random_waits(rng, 4)
     if shape == "waits before":
         return random_waits(rng, 4) + needed
@@ -56,14 +56,14 @@ def start_steps(rng, panel):
 
 
 def stop_steps(rng, panel):
-    shape = rng.choice(("none", "waits alone", "few", "full", "waits behind", "every register"))
+    shape = rng.choice(("none", "waits alone", "few", "full", "waits after", "every register"))
     if shape == "none":
         return []
     if shape == "waits alone":
         return random_waits(rng, rng.choice((1, 3, 32)))
     if shape == "full":
         return random_steps(rng, panel, 32)
-    if shape == "waits behind":
+    if shape == "waits after":
         return [write_step(rng, panel, rng.randint(1, 9))] + random_waits(rng, 3)
     if shape == "every register":
         return every_register(rng, panel)
@@ -155,16 +155,15 @@ def changed(rng, file, at, length):
 
 def bitmap(rng, panel):
     """A good file. All that is not looked at may hold anything."""
-    file = bytearray(bitmaps.write(panel.name, picture(rng, panel)))
+    file = bytearray(bitmaps.write(panel, picture(rng, panel)))
     if rng.random() < 0.7:
         file[34:38] = rng.choice((bytes(4), file[34:38]))
         file[38:46] = rng.randbytes(8)
         file[46:50] = rng.choice((0, 2)).to_bytes(4, "little")
         file[50:62] = rng.randbytes(12)
-        _, height, stride = bitmaps.PANELS[panel.name]
-        padding = stride - panel.width // 8
-        for y in range(height if padding else 0):
-            end = bitmaps.HEADER + (y + 1) * stride
+        padding = panel.stride - panel.width // 8
+        for y in range(panel.height if padding else 0):
+            end = bitmaps.HEADER + (y + 1) * panel.stride
             file[end - padding:end] = rng.randbytes(padding)
     return bytes(file)
 

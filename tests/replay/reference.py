@@ -6,7 +6,6 @@ import functools
 import re
 import sys
 
-from simulator.panel import PANELS
 from tests.bitmaps import reference as bitmaps
 from tests.listing import reference as settings
 
@@ -52,12 +51,12 @@ def line(panel, stage, row, dots):
     return upper(bytes.fromhex("700A72") + body + bytes.fromhex("7002722F"))
 
 
-def upper(data):
-    return data.hex().upper()
+def upper(bytes_out):
+    return bytes_out.hex().upper()
 
 
 def with_waits(steps):
-    """Pairs of a write's whole wait and its bytes; and the wait behind the last write. Neighbouring waits are summed."""
+    """Pairs of a write's whole wait and its bytes; and the wait after the last write. Neighbouring waits are summed."""
     writes, wait = [], 0
     for kind, value in steps:
         if kind == "wait":
@@ -106,7 +105,7 @@ class Run:
         return max(0, self.due() - self.passed)
 
     def stage(self):
-        """The stage of the next thing: 1 to 4, 0 among the start writes, 5 behind the lines."""
+        """The stage of the next thing: 1 to 4, 0 among the start writes, 5 after the lines."""
         if self.next < self.first_line:
             return 0
         return 1 + min(4, (self.next - self.first_line) // (self.panel.frames * self.panel.height))
@@ -142,10 +141,9 @@ class Store:
         self.panel = self.running = None
         self.abandoned = False
         try:
-            code, start, stop = settings.read_settings(file)
+            panel, start, stop = settings.read_settings(file)
         except settings.Refused:
             return 2
-        panel = PANELS[code]
         whole = (n + 1) * (panel.width // 8 * panel.height)
         if not 1 <= n <= 7 or length not in (None, whole):
             return 1
@@ -173,9 +171,9 @@ class Store:
         return 7 if self.running and self.running.slot == slot else 0
 
     def region(self, slot, x, y, width, height, payload):
-        number = self.no_upload(slot)
-        if number:
-            return number
+        refusal = self.no_upload(slot)
+        if refusal:
+            return refusal
         if width < 1 or height < 1 or x + width > self.panel.width or y + height > self.panel.height:
             return 5
         stride = -(-width // 8)
@@ -191,18 +189,18 @@ class Store:
 
     def paint(self, slot, x, y, width, dots):
         """Replaces dots x to x + width - 1 of a row. A row as a number has dot 0 as its highest bit."""
-        behind = self.panel.width - x - width
-        mask = ((1 << width) - 1) << behind
-        row = int.from_bytes(self.row(slot, y), "big") & ~mask | dots << behind
+        right = self.panel.width - x - width  # dots to the right of them
+        mask = ((1 << width) - 1) << right
+        row = int.from_bytes(self.row(slot, y), "big") & ~mask | dots << right
         length = self.panel.width // 8
         at = slot * self.size() + y * length
         self.memory[at:at + length] = row.to_bytes(length, "big")
 
     def bitmap(self, slot, file):
-        number = self.no_upload(slot)
-        if number:
-            return number
-        rows = bitmaps.read(self.panel.name, file)
+        refusal = self.no_upload(slot)
+        if refusal:
+            return refusal
+        rows = bitmaps.read(self.panel, file)
         if rows is None:
             return 4
         self.memory[slot * self.size():(slot + 1) * self.size()] = b"".join(rows)
@@ -243,14 +241,14 @@ class Store:
             self.running = None
             return "0 done"
         if run.next < run.first_line:
-            answer = "0 write " + run.start[run.next][1]
+            given = "0 write " + run.start[run.next][1]
         elif run.next < run.first_stop:
-            answer = "0 line " + self.next_line(run)
+            given = "0 line " + self.next_line(run)
         else:
-            answer = "0 write " + run.stop[run.next - run.first_stop][1]
+            given = "0 write " + run.stop[run.next - run.first_stop][1]
         run.handed = run.passed
         run.next += 1
-        return answer
+        return given
 
     def next_line(self, run):
         if run.next == run.first_line:
@@ -272,10 +270,10 @@ class Store:
             return self.unusable()
         if slot > self.slots:
             return 3
-        if length < bitmaps.file_length(self.panel.name):
+        if length < bitmaps.file_length(self.panel):
             return 11
         picture, stride = self.picture(slot), self.panel.width // 8
-        return "0 " + upper(bitmaps.write(self.panel.name, [picture[at:at + stride] for at in range(0, len(picture), stride)]))
+        return "0 " + upper(bitmaps.write(self.panel, [picture[at:at + stride] for at in range(0, len(picture), stride)]))
 
 
 class Malformed(Exception):
@@ -307,7 +305,7 @@ def output_length(word):
     return number(word, MOST_OUTPUT)
 
 
-# how each word behind a call's name is read, and how many of them must be there
+# how each word after a call's name is read, and how many of them must be there
 CALLS = {
     "open": ((number, data, memory_length), 2),
     "lend": ((memory_length,), 1),

@@ -1,7 +1,7 @@
 """Random scripts of calls for the replay program, of several kinds."""
 from collections import namedtuple
 
-from simulator.panel import PANELS
+from tests.panels import PANELS
 from tests.replay import calls, inputs
 from tests.replay.calls import BACK, Script
 
@@ -105,7 +105,7 @@ def things_before(script, place):
 
 
 def abandoned(script, panel, place):
-    """A run abandoned in this place, and what can be called then. Behind it a piece of a run that an opening ends."""
+    """A run abandoned in this place, and what can be called then. After it a piece of a run that an opening ends."""
     rng = script.rng
     calls.open_store(script, panel, inputs.with_all_registers(rng, panel))
     calls.begin(script)

@@ -10,7 +10,7 @@ use Rattle.balance.specs.Sums.{sumOf, Within, restSum}
 use Rattle.balance.specs.Moves.{Dots, Place, line, allOut, View, resting, updating, abandoned, Move, nothing, start, draw, done, abandon, Moves, none, more}
 use Rattle.balance.specs.Excess.{restExcess, excessAt, excessOf, netPush}
 use Rattle.balance.proofs.Excess.{minus-within, rest-sum, rest-le, rest-net}
-use Rattle.balance.proofs.Places.{InRun, at-line, at-le, at-first, first-excess, line-push, behind-line}
+use Rattle.balance.proofs.Places.{InRun, at-line, at-le, at-first, first-excess, line-push, after-line}
 
 -- a run, under way or abandoned, stands at a place of a run
 pub data Valid (N : ℕ) : View → Type 0 where
@@ -35,8 +35,8 @@ module _ (b h N x y : ℕ) (some : 0 < N) (fx : x < 8 * b) (fy : y < h) where
   move-leads (start {shown} {new} s) i =
       (under-way (at-first N some), rw (s x y, +ℤ-idr, first-excess N some y (shown x y) (new x y)))
   move-leads (draw {shown} {new} {stage} {frame} {row} d) (under-way (at-line l u f)) =
-      let behind = behind-line h N y (shown x y) (new x y) stage frame row fy some l u f in
-      (under-way (behind .0), rw (d x y fx fy, behind .1) (line-push N stage frame row shown new x y l u f))
+      let after = after-line h N y (shown x y) (new x y) stage frame row fy some l u f in
+      (under-way (after .0), rw (d x y fx fy, after .1) (line-push N stage frame row shown new x y l u f))
   move-leads (done s) i = (at-rest, rw (s x y, +ℤ-idr))
   move-leads (abandon s) (under-way i) = (left-off i, rw (s x y, +ℤ-idr))
 

@@ -1,4 +1,4 @@
--- Laws of `nextPlace`, `framesHad` and `excessAt`: a line changes the excess of each dot as it pushes the dot, and the place behind
+-- Laws of `nextPlace`, `framesHad` and `excessAt`: a line changes the excess of each dot as it pushes the dot, and the place after
 -- it says so. Over any rows h and frames N a stage.
 -- Assumes nothing.
 use mathlib.Core.Path.{_≡_, refl, sym, _∙_}
@@ -17,7 +17,7 @@ use Rattle.balance.specs.Moves.{Dots, Place, line, allOut, nextPlace}
 use Rattle.balance.specs.Excess.{restExcess, blackExcess, framesHad, excessAt}
 use Rattle.balance.proofs.Excess.{rest-le, excess-first, excess-last, excess-turn, excess-frame, excess-le}
 
--- ---- the place behind a line
+-- ---- the place after a line
 
 module _ (h N stage frame row : ℕ) where
   pub next-row : row + 1 < h → nextPlace h N stage frame row ≡ line stage frame (row + 1)
@@ -112,20 +112,20 @@ module _ (N : ℕ) (some : 0 < N) where
   unfolding excessAt
   first-excess y shown new = rw (had-those-before 0 0 y (omega arith)) (excess-first N shown new)
 
--- behind a line it stands at a place again, which tells the frames that a dot of row y has had by then
+-- after a line it stands at a place again, which tells the frames that a dot of row y has had by then
 module _ (h N y shown new stage frame row : ℕ) (fy : y < h) (some : 0 < N) (l : 1 ≤ stage) (u : stage ≤ 4) (f : frame < N) where
-  abbrev Behind : Place → Type 0
-  Behind place = InRun N place × (excessAt N y shown new place ≡ blackExcess N stage shown new (framesHad frame (row + 1) y))
+  abbrev After : Place → Type 0
+  After place = InRun N place × (excessAt N y shown new place ≡ blackExcess N stage shown new (framesHad frame (row + 1) y))
 
-  behind-row : Behind (line stage frame (row + 1))
+  after-row : After (line stage frame (row + 1))
   unfolding excessAt
-  behind-row = (at-line l u f, refl)
+  after-row = (at-line l u f, refl)
 
   -- in the last row of a frame
   module _ (r : h ≤ row + 1) where
-    behind-frame : frame + 1 < N → Behind (line stage (frame + 1) 0)
+    after-frame : frame + 1 < N → After (line stage (frame + 1) 0)
     unfolding excessAt
-    behind-frame g =
+    after-frame g =
         (at-line l u g, rw (had-those-before (frame + 1) 0 y (omega arith), had-this frame (row + 1) y (omega arith)))
 
     -- in the last frame of a stage
@@ -133,32 +133,32 @@ module _ (h N y shown new stage frame row : ℕ) (fy : y < h) (some : 0 < N) (l 
       had-all : framesHad frame (row + 1) y ≡ N
       had-all = had-this frame (row + 1) y (omega arith) ∙ omega arith
 
-      behind-stage : stage < 4 → Behind (line (stage + 1) 0 0)
+      after-stage : stage < 4 → After (line (stage + 1) 0 0)
       unfolding excessAt
-      behind-stage s =
+      after-stage s =
           (at-line {stage = stage + 1} (omega arith) (omega arith) some, rw (had-all, had-those-before 0 0 y (omega arith)) (sym (excess-turn N shown new stage l s)))
 
-      behind-all : 4 ≤ stage → Behind allOut
+      after-all : 4 ≤ stage → After allOut
       unfolding excessAt
-      behind-all s =
+      after-all s =
           let last : stage ≡ 4 = omega arith in
           (at-end, rw (had-all, last) (sym (excess-last N shown new)))
 
-  pub behind-line : Behind (nextPlace h N stage frame row)
-  behind-line =
+  pub after-line : After (nextPlace h N stage frame row)
+  after-line =
       elim (decLt (row + 1) h) [
-        | yes r ↦ rw (next-row h N stage frame row r) behind-row
+        | yes r ↦ rw (next-row h N stage frame row r) after-row
         | no n ↦
             let r : h ≤ row + 1 = omega arith in
             elim (decLt (frame + 1) N) [
-              | yes g ↦ rw (next-frame h N stage frame row r g) (behind-frame r g)
+              | yes g ↦ rw (next-frame h N stage frame row r g) (after-frame r g)
               | no m ↦
                   let g : N ≤ frame + 1 = omega arith in
                   elim (decLt stage 4) [
-                    | yes s ↦ rw (next-stage h N stage frame row r g s) (behind-stage r g s)
+                    | yes s ↦ rw (next-stage h N stage frame row r g s) (after-stage r g s)
                     | no k ↦
                         let s : 4 ≤ stage = omega arith in
-                        rw (next-none h N stage frame row r g s) (behind-all r g s)
+                        rw (next-none h N stage frame row r g s) (after-all r g s)
                   ]
             ]
       ]

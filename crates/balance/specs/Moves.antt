@@ -18,7 +18,7 @@ pub data Place : Type 0 where
   line : (stage frame row : ℕ) → Place
   allOut : Place
 
--- the place behind a line: the next row, else the next frame, else the next stage, else all are out
+-- the place after a line: the next row, else the next frame, else the next stage, else all are out
 unfoldable pub nextPlace : (h N stage frame row : ℕ) → Place
 nextPlace h N stage frame row =
     cond (ltb (row + 1) h) (line stage frame (row + 1))

@@ -1,20 +1,19 @@
--- Laws of the check: its tests in the groups in which the code asks them, and its answer.
+-- Laws of the check's sizes and answer.
 -- Assumes nothing.
-use mathlib.Core.Path.{_≡_, sym, ap, _∙_}
-use mathlib.Core.Bool.{Bool, true, false, not, _&&_, and-true}
-use mathlib.Core.List.{List, [], _∷_, _++_, map}
+use mathlib.Core.Path.{_≡_}
+use mathlib.Core.Bool.{Bool, true, false, not}
+use mathlib.Core.List.{List, [], _∷_, map}
 use Prim.Native.Nat.{ℕ, _+_, _*_, _≤_}
 use native.Mathlib.Nat.{mul-le-mul}
 use native.Mathlib.Omega.{arith}
 use mir.Val.{Fits}
 use mir.Syntax.{w64}
-use lib.Dec.{eqb}
-use lib.ListN.{length, take, drop}
+use borrow.Author.Tests.{eq-eqb, ne-eqb}
+use lib.ListN.{length}
 use Rattle.lists.specs.Rules.{every, case, firstOf}
 use Rattle.panel.specs.Panels.{isPanel, rowsOf, rowBytesOf, strideOf}
 use Rattle.bitmap.specs.Header.{fileLength, headerFields, fieldGood}
 use Rattle.bitmap.specs.Bitmap.{bitmapGood, checkBitmap}
-use Rattle.lists.proofs.Rules.{every-append}
 
 pub rows-small : (h s : ℕ) → h ≤ 176 → s ≤ 36 → h * s ≤ 6336
 rows-small h s p q = mul-le-mul {n₁ = h} {m₁ = s} {n₂ = 176} {m₂ = 36} p q
@@ -26,27 +25,15 @@ rows-fit h s p q = omega (arith, rows-small h s p q)
 pub file-fits : (n h s : ℕ) → n ≤ 100 → h ≤ 176 → s ≤ 36 → Fits w64 (n + h * s)
 file-fits n h s l p q = omega (arith, rows-small h s p q)
 
+-- the length decides where it is wrong, and else the fields
 module _ (b h s : ℕ) (file : List ℕ) where
-  -- the tests of the first four fields, of the next five, and of the others
-  abbrev pub fileTests : List Bool
-  fileTests = map (fieldGood file) (take 4 (headerFields b h s))
-
-  abbrev pub infoTests : List Bool
-  infoTests = map (fieldGood file) (take 5 (drop 4 (headerFields b h s)))
-
-  abbrev pub imageTests : List Bool
-  imageTests = map (fieldGood file) (drop 9 (headerFields b h s))
-
-  abbrev pub groups : List Bool
-  groups = eqb (length file) (fileLength h s) ∷ every fileTests ∷ every infoTests ∷ every imageTests ∷ []
-
-  pub good-groups : bitmapGood b h s file ≡ every groups
+  pub wrong-length : (length file ≡ fileLength h s → ⊥) → false ≡ bitmapGood b h s file
   unfolding bitmapGood
-  good-groups =
-      ap (λ (t : Bool). eqb (length file) (fileLength h s) && t)
-      (every-append fileTests (infoTests ++ imageTests)
-      ∙ ap (λ (t : Bool). every fileTests && t)
-      (every-append infoTests imageTests ∙ ap (λ (t : Bool). every infoTests && t) (sym (and-true (every imageTests)))))
+  wrong-length n = rw (ne-eqb (length file) (fileLength h s) n)
+
+  pub right-length : length file ≡ fileLength h s → bitmapGood b h s file ≡ every (map (fieldGood file) (headerFields b h s))
+  unfolding bitmapGood
+  right-length e = rw (eq-eqb (length file) (fileLength h s) e)
 
 -- where the panel is one, the file decides
 pub check-file : (panel : ℕ) (file : List ℕ) (b h s : ℕ) (t : Bool) → isPanel panel ≡ true

@@ -57,13 +57,13 @@ number-more at out d j i n left e p q h =
 
 -- ---- there and back
 
-number-behind : (size x at : ℕ) (file : List ℕ) → numberAt size (x ∷ file) (suc at) ≡ numberAt size file at
-number-behind zero x at file = refl
-number-behind (suc size) x at file = ap (λ (m : ℕ). getD file at 0 + 256 * m) (number-behind size x (suc at) file)
+number-tail : (size x at : ℕ) (file : List ℕ) → numberAt size (x ∷ file) (suc at) ≡ numberAt size file at
+number-tail zero x at file = refl
+number-tail (suc size) x at file = ap (λ (m : ℕ). getD file at 0 + 256 * m) (number-tail size x (suc at) file)
 
 -- a number that fits its bytes is read as it was written
 pub number-back : (size n : ℕ) (rest : List ℕ) → n < 256 ^ size → numberAt size (numberBytes size n ++ rest) 0 ≡ n
 number-back zero n rest h = omega arith
 number-back (suc size) n rest h =
     let l : n / 256 < 256 ^ size = omega (arith, pow-suc 256 size) in
-    rw (number-behind size (n % 256) 0 (numberBytes size (n / 256) ++ rest), number-back size (n / 256) rest l) (omega arith)
+    rw (number-tail size (n % 256) 0 (numberBytes size (n / 256) ++ rest), number-back size (n / 256) rest l) (omega arith)

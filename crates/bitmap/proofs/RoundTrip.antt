@@ -2,7 +2,7 @@
 -- What is written reads back as the picture, and the check accepts it. All of it holds for any row bytes b, rows h and stride s.
 -- Assumes nothing.
 use mathlib.Core.Path.{_≡_, refl, sym, ap, _∙_}
-use mathlib.Core.Bool.{true, false, cond, _||_, or-true}
+use mathlib.Core.Bool.{true, cond}
 use mathlib.Core.List.{List, _++_}
 use Prim.Native.Nat.{ℕ, _+_, _-_, _*_, _/_, _%_, _≤_, _<_}
 use native.Mathlib.Nat.{mod-lt, div-lt-iff-lt-mul, div-add-mod'}
@@ -10,19 +10,22 @@ use native.Mathlib.Omega.{arith}
 use native.Mathlib.Decide.{decLt}
 use borrow.Author.Tests.{lt-ltb, le-ltb, eq-eqb}
 use lib.Arith.{digits-lt, digits-div, digits-mod}
-use lib.Dec.{eqb, ltb}
+use lib.Dec.{ltb}
 use lib.ListN.{length, getD, drop, length-append}
 use lib.Seq.{getD-append-add}
 use Rattle.lists.proofs.Lists.{length-tabulate, getD-tabulate, tabulate-cong, is-tabulate}
 use Rattle.lists.proofs.Rules.{none, keep, all-kept}
 use Rattle.panel.specs.Panels.{rowsOf, rowBytesOf, strideOf}
-use Rattle.panel.proofs.Panels.{Size, size-of}
+use Rattle.panel.proofs.Panels.{size-of}
 use Rattle.picture.proofs.Pictures.{Bytes, bytes-tabulate}
 use Rattle.picture.proofs.Slots.{Rows}
-use Rattle.bitmap.specs.Header.{headerLength, fileLength, header}
+use Rattle.bitmap.specs.declared.Field.{Field}
+use Rattle.bitmap.specs.Numbers.{numberAt}
+use Rattle.bitmap.specs.Header.{headerLength, fileLength, fieldGood, header}
 use Rattle.bitmap.specs.Bitmap.{bitmapGood, checkBitmap, readPicture, fileRows, writtenFile, normalForm}
 use Rattle.bitmap.proofs.Numbers.{number-back}
 use Rattle.bitmap.proofs.Check.{rows-small, check-file}
+use Rattle.bitmap.proofs.Fields.{fieldAt}
 
 -- counted from the other end and back
 flip : (h y : ℕ) → y < h → h - 1 - (h - 1 - y) ≡ y
@@ -53,7 +56,7 @@ module _ (b h s : ℕ) where
         (λ k. bytes (headerLength + ((h - 1 - k / b) * s + k % b))),
   )
 
-  -- what stands behind the header of a written file
+  -- what stands after the header of a written file
   getD-file : (picture : List ℕ) (n : ℕ) → getD (writtenFile b h s picture) (headerLength + n) 0 ≡ getD (fileRows b h s picture) n 0
   unfolding writtenFile header
   getD-file picture n = getD-append-add (header b h s) (fileRows b h s picture) n 0
@@ -118,37 +121,36 @@ module _ (b h s : ℕ) (some : 0 < b) (within : b ≤ s) where
   pub read-normal : (file : List ℕ) → readPicture b h s (normalForm b h s file) ≡ readPicture b h s file
   read-normal file = rw (← write-read file) (read-written (readPicture b h s file) (length-read b h s file))
 
--- a field that reads as its only number, and as its second
-one : {found : ℕ} (n : ℕ) → found ≡ n → (eqb found n || false) ≡ true
-one n e = rw (eq-eqb _ n e)
-
-second : {found : ℕ} (m n : ℕ) → found ≡ n → (eqb found m || (eqb found n || false)) ≡ true
-second {found} m n e = rw (eq-eqb _ n e) (or-true (eqb found m))
+-- a field that reads as the number that is written there is good
+held : (file : List ℕ) (f : Field) → numberAt (f .size) file (f .at) ≡ f .number → fieldGood file f ≡ true
+held file f e = rw (eq-eqb _ (f .number) e)
 
 -- the check accepts every file that is written: each field is read as it was written, since its number fits four bytes
-pub good-written : (b h s : ℕ) → Size b h s → (picture : List ℕ) → bitmapGood b h s (writtenFile b h s picture) ≡ true
+pub good-written : (b h s : ℕ) → b ≤ 33 → h ≤ 176 → s ≤ 36 → (picture : List ℕ) → bitmapGood b h s (writtenFile b h s picture) ≡ true
 unfolding bitmapGood writtenFile header
-good-written b h s size picture =
-    let small : h * s ≤ 6336 = rows-small h s (size .low) (size .stride) in
+good-written b h s narrow low near picture =
+    let small : h * s ≤ 6336 = rows-small h s low near in
     let file = writtenFile b h s picture in
     all-kept
     (keep (eq-eqb (length file) (fileLength h s) (length-file b h s picture))
     (keep refl
-    (keep (one (fileLength h s) (number-back 4 (fileLength h s) (drop 6 file) (omega arith)))
+    (keep (held file (fieldAt b h s 1) (number-back 4 (fileLength h s) (drop 6 file) (omega arith)))
     (keep refl
     (keep refl
     (keep refl
-    (keep (one (8 * b) (number-back 4 (8 * b) (drop 22 file) (omega arith)))
-    (keep (one h (number-back 4 h (drop 26 file) (omega arith)))
+    (keep (held file (fieldAt b h s 5) (number-back 4 (8 * b) (drop 22 file) (omega arith)))
+    (keep (held file (fieldAt b h s 6) (number-back 4 h (drop 26 file) (omega arith)))
     (keep refl
     (keep refl
     (keep refl
-    (keep (second 0 (h * s) (number-back 4 (h * s) (drop 38 file) (omega arith)))
-    (keep refl (keep refl (keep refl (keep refl (keep refl none)))))))))))))))))
+    (keep (held file (fieldAt b h s 10) (number-back 4 (h * s) (drop 38 file) (omega arith)))
+    (keep refl (keep refl (keep refl (keep refl (keep refl (keep refl none))))))))))))))))))
 
 pub good-panel : (panel : ℕ) → panel < 3 → (picture : List ℕ)
     → let b = rowBytesOf panel in let h = rowsOf panel in let s = strideOf panel in bitmapGood b h s (writtenFile b h s picture) ≡ true
-good-panel panel l = good-written (rowBytesOf panel) (rowsOf panel) (strideOf panel) (size-of panel l)
+good-panel panel l =
+    let size = size-of panel l in
+    good-written (rowBytesOf panel) (rowsOf panel) (strideOf panel) (size .narrow) (size .low) (size .small)
 
 pub check-written : (panel : ℕ) → panel < 3 → (picture : List ℕ)
     → checkBitmap panel (writtenFile (rowBytesOf panel) (rowsOf panel) (strideOf panel) picture) ≡ 0

@@ -67,7 +67,7 @@ module _ (b h s : ℕ) (within : b ≤ s) (picture : List ℕ) (size : length pi
       ∙ rw (digits-div j q, digits-mod j q)
       (sym (row-at i q)))
 
-  -- a turn of the loop: one row more, right behind those that are there already
+  -- a turn of the loop: one row more, right after those that are there already
   pub row-next : (out : List ℕ) {d e : List ℕ} → fileLength h s ≤ length out
       → d ≡ overlayAt headerLength (take (j * s) (fileRows b h s picture)) out → e ≡ overlayAt (headerLength + j * s) rowAt d
       → e ≡ overlayAt headerLength (take ((j + 1) * s) (fileRows b h s picture)) out
@@ -122,7 +122,7 @@ module _ (b h s : ℕ) (some : 0 < b) (within : b ≤ s) (file : List ℕ) (byte
         ∙ read-byte b h s some within file y i low q
         ∙ sym (getD-take b (drop at file) i 0 q ∙ getD-drop at file i 0 ∙ rw add-assoc))
 
-    -- a turn of the loop: one row more, right behind those that are there already
+    -- a turn of the loop: one row more, right after those that are there already
     pub read-next : {d e : List ℕ} → d ≡ rawOf b h (partRead b h s file old y)
         → e ≡ rawOf b h (overlayAt (y * b) rowIn (pictureOf b h d)) → e ≡ rawOf b h (partRead b h s file old (y + 1))
     read-next {d} {e} p q =

@@ -1,5 +1,5 @@
 -- Document 01, "Store and bitmaps": bitmap files of pictures of h rows of b bytes. After the header come the rows, bottom row
--- first, s bytes apart; the s - b bytes behind a row are padding.
+-- first, s bytes apart; the s - b bytes after a row are padding.
 -- Assumes nothing.
 use Prim.Native.Nat.{ℕ, _+_, _-_, _*_, _/_, _%_}
 use mathlib.Core.Bool.{Bool, cond, not}

@@ -1,22 +1,14 @@
 -- Document 01, "Store and bitmaps": what stands before the rows of a bitmap file, for a picture of h rows of b bytes whose rows
--- are s bytes apart in the file.
+-- are s bytes apart in the file. One table has its fields: the check and the writer read the same one.
 -- Assumes nothing.
 use Prim.Native.Nat.{ℕ, _+_, _*_}
-use mathlib.Core.Bool.{Bool, true}
-use mathlib.Core.List.{List, [], _∷_, _++_, map}
+use mathlib.Core.Bool.{Bool, true, false, _||_}
+use mathlib.Core.List.{List, [], _∷_, _++_}
 use lib.Dec.{eqb}
-use lib.ListN.{replicate}
-use Rattle.lists.specs.Rules.{some}
+use Rattle.bitmap.specs.declared.Also.{Also}
+use Rattle.bitmap.specs.declared.Also.the-variants.{Only, Or, OrAnything}
+use Rattle.bitmap.specs.declared.Field.{Field}
 use Rattle.bitmap.specs.Numbers.{numberAt, numberBytes}
-
--- what a field may hold: one of some numbers, or anything
-pub data Allowed : Type 0 where
-  oneOf : (numbers : List ℕ) → Allowed
-  anything : Allowed
-
--- a field: its index in the file, its bytes, and what it may hold
-pub data Field : Type 0 where
-  field : (at size : ℕ) (allowed : Allowed) → Field
 
 -- the bytes before the rows
 abbrev pub headerLength : ℕ
@@ -25,44 +17,47 @@ headerLength = 62
 abbrev pub fileLength : (h s : ℕ) → ℕ
 fileLength h s = headerLength + h * s
 
--- the fields, in file order, without a gap
+-- a field: its index in the file, its bytes, the number that the writer puts there, and what else it may hold
+abbrev pub field : (at size number : ℕ) (also : Also) → Field
+field at size number also = record { at = at; size = size; number = number; also = also }
+
+-- the fields, in file order, without a gap; the writer puts 0 at 38 to 53, and a palette of black, then white
 abbrev pub headerFields : (b h s : ℕ) → List Field
 headerFields b h s =
-    field 0 2 (oneOf (0x4D42 ∷ []))  -- BM
-    ∷ field 2 4 (oneOf (fileLength h s ∷ []))
-    ∷ field 6 4 (oneOf (0 ∷ []))
-    ∷ field 10 4 (oneOf (headerLength ∷ []))
-    ∷ field 14 4 (oneOf (40 ∷ []))
-    ∷ field 18 4 (oneOf (8 * b ∷ []))  -- X
-    ∷ field 22 4 (oneOf (h ∷ []))  -- Y
-    ∷ field 26 2 (oneOf (1 ∷ []))
-    ∷ field 28 2 (oneOf (1 ∷ []))
-    ∷ field 30 4 (oneOf (0 ∷ []))
-    ∷ field 34 4 (oneOf (0 ∷ h * s ∷ []))
-    ∷ field 38 4 anything
-    ∷ field 42 4 anything
-    ∷ field 46 4 (oneOf (0 ∷ 2 ∷ []))
-    ∷ field 50 4 anything
-    ∷ field 54 8 anything  -- the palette
+    field 0 2 0x4D42 Only  -- BM
+    ∷ field 2 4 (fileLength h s) Only
+    ∷ field 6 4 0 Only
+    ∷ field 10 4 headerLength Only
+    ∷ field 14 4 40 Only
+    ∷ field 18 4 (8 * b) Only  -- X
+    ∷ field 22 4 h Only  -- Y
+    ∷ field 26 2 1 Only
+    ∷ field 28 2 1 Only
+    ∷ field 30 4 0 Only
+    ∷ field 34 4 (h * s) (Or 0)
+    ∷ field 38 4 0 OrAnything
+    ∷ field 42 4 0 OrAnything
+    ∷ field 46 4 0 (Or 2)
+    ∷ field 50 4 0 OrAnything
+    ∷ field 54 4 0x000000 OrAnything  -- the palette: black
+    ∷ field 58 4 0xFFFFFF OrAnything  -- and white
     ∷ []
 
-abbrev pub fieldGood : (file : List ℕ) → Field → Bool
-fieldGood file (field at size (oneOf numbers)) = some (map (eqb (numberAt size file at)) numbers)
-fieldGood file (field at size anything) = true
+-- what a field may hold besides its own number
+abbrev pub alsoGood : Also → (found : ℕ) → Bool
+alsoGood Only found = false
+alsoGood (Or other) found = eqb found other
+alsoGood OrAnything found = true
 
--- what the writer puts before the rows: Y x stride at 34, 0 at 38 to 53, and a palette of black, then white
+-- a field is good where it holds its own number, or what else it may
+abbrev pub fieldGood : (file : List ℕ) → Field → Bool
+fieldGood file f = eqb (numberAt (f .size) file (f .at)) (f .number) || alsoGood (f .also) (numberAt (f .size) file (f .at))
+
+-- the numbers of fields, as bytes
+abbrev pub fieldsBytes : List Field → List ℕ
+fieldsBytes [] = []
+fieldsBytes (f ∷ fields) = numberBytes (f .size) (f .number) ++ fieldsBytes fields
+
+-- what the writer puts before the rows: the number of each field
 unfoldable pub header : (b h s : ℕ) → List ℕ
-header b h s =
-    numberBytes 2 0x4D42
-    ++ numberBytes 4 (fileLength h s)
-    ++ numberBytes 4 0
-    ++ numberBytes 4 headerLength
-    ++ numberBytes 4 40
-    ++ numberBytes 4 (8 * b)
-    ++ numberBytes 4 h
-    ++ numberBytes 2 1
-    ++ numberBytes 2 1
-    ++ numberBytes 4 0
-    ++ numberBytes 4 (h * s)
-    ++ replicate 16 0
-    ++ (0x00 ∷ 0x00 ∷ 0x00 ∷ 0x00 ∷ 0xFF ∷ 0xFF ∷ 0xFF ∷ 0x00 ∷ [])
+header b h s = fieldsBytes (headerFields b h s)

@@ -1,4 +1,5 @@
 -- Bitmap files: the rules, the ways between a file and a picture, and the check's answer.
 pub mod Numbers
 pub mod Header
+pub mod Table
 pub mod Bitmap

@@ -1,22 +1,21 @@
 // Bitmap files: the check, and the ways between a file and a slot. A picture has h rows of b bytes; in a file they are s bytes
 // apart.
 ghost use mathlib.Core.Path.{_≡_};
-ghost use Prim.Native.Nat.{_+_, _-_, _*_, _<_, _≤_};
-ghost use mathlib.Core.List.{[], _∷_, _++_, map};
-ghost use lib.ListN.{length, take, drop, replicate};
+ghost use Prim.Native.Nat.{ℕ, _+_, _-_, _*_, _<_, _≤_};
+ghost use mathlib.Core.List.{_++_, map};
+ghost use lib.ListN.{length, replicate};
 ghost use Rattle.lists.specs.Lists.{overlay, overlayAt};
 ghost use Rattle.lists.specs.Rules.{every};
 ghost use Rattle.picture.specs.Slots.{pictureOf, rawOf, pictureRow};
 ghost use Rattle.bitmap.specs.Numbers.{numberAt, numberBytes};
 ghost use Rattle.bitmap.specs.Header.{
-  field,
-  oneOf,
   headerLength,
   fileLength,
   headerFields,
   fieldGood,
   header,
 };
+ghost use Rattle.bitmap.specs.Table.{numberOf, fieldOf};
 ghost use Rattle.bitmap.specs.Bitmap.{
   bitmapGood,
   checkBitmap,
@@ -25,20 +24,113 @@ ghost use Rattle.bitmap.specs.Bitmap.{
   writtenFile,
 };
 
+// ---- the table of fields
+
+// What a field may hold besides its own number: nothing, one other number, or anything.
+pub enum Also {
+    Only,
+    Or(u8),
+    OrAnything,
+}
+
+// A field of the header: its index in the file, its bytes, the number that the writer puts there, and what else it may hold.
+pub struct Field {
+    pub at: usize,
+    pub size: usize,
+    pub number: usize,
+    pub also: Also,
+}
+
+// The number of an entry: the same in every file; or, for a picture, the length of its file, its width in dots, its rows, or the
+// length of these in the file.
+pub enum Number {
+    Fixed(u32),
+    FileLength,
+    Width,
+    Rows,
+    RowsLength,
+}
+
+// An entry of the table: a field for pictures of any size, with its parts in the same order.
+pub struct Entry(pub u8, pub u8, pub Number, pub Also);
+
+const FIELDS: [Entry; 17] = [
+    Entry(0, 2, Number::Fixed(0x4D42), Also::Only),
+    Entry(2, 4, Number::FileLength, Also::Only),
+    Entry(6, 4, Number::Fixed(0), Also::Only),
+    Entry(10, 4, Number::Fixed(62), Also::Only),
+    Entry(14, 4, Number::Fixed(40), Also::Only),
+    Entry(18, 4, Number::Width, Also::Only),
+    Entry(22, 4, Number::Rows, Also::Only),
+    Entry(26, 2, Number::Fixed(1), Also::Only),
+    Entry(28, 2, Number::Fixed(1), Also::Only),
+    Entry(30, 4, Number::Fixed(0), Also::Only),
+    Entry(34, 4, Number::RowsLength, Also::Or(0)),
+    Entry(38, 4, Number::Fixed(0), Also::OrAnything),
+    Entry(42, 4, Number::Fixed(0), Also::OrAnything),
+    Entry(46, 4, Number::Fixed(0), Also::Or(2)),
+    Entry(50, 4, Number::Fixed(0), Also::OrAnything),
+    Entry(54, 4, Number::Fixed(0x000000), Also::OrAnything),
+    Entry(58, 4, Number::Fixed(0xFFFFFF), Also::OrAnything),
+];
+
+// The length of a file.
+pub fn file_length(h: usize, s: usize) -> usize
+    requires { ⌜ (h ≤ 176) × (s ≤ 36) ⌝ }
+    ensures { λ r. ⌜ r ≡ fileLength h s ⌝ }
+{
+    62 + h * s
+}
+
+fn number_of(b: usize, h: usize, s: usize, number: Number) -> usize
+    requires { ⌜ (b ≤ 33) × (h ≤ 176) × (s ≤ 36) ⌝ }
+    ensures { λ r. ⌜ r ≡ numberOf b h s number ⌝ }
+{
+    match number {
+        Number::Fixed(n) => n as usize,
+        Number::FileLength => file_length(h, s),
+        Number::Width => 8 * b,
+        Number::Rows => h,
+        Number::RowsLength => h * s,
+    }
+}
+
+// The field that an entry is for a picture.
+fn field_of(b: usize, h: usize, s: usize, entry: Entry) -> Field
+    requires { ⌜ (b ≤ 33) × (h ≤ 176) × (s ≤ 36) ⌝ }
+    ensures { λ r. ⌜ r ≡ fieldOf b h s entry ⌝ }
+{
+    let number = entry.2;
+    let also = entry.3;
+    Field {
+        at: entry.0 as usize,
+        size: entry.1 as usize,
+        number: number_of(b, h, s, number),
+        also,
+    }
+}
+
+// The table, for a loop over it: where it is indexed it is laid out, so it is asked for once before the loop.
+fn table() -> [Entry; 17]
+    ensures { λ r. ⌜ ((b h s : ℕ) → map (fieldOf b h s) r ≡ headerFields b h s) ⌝ }
+{
+    FIELDS
+}
+
 // ---- the check
 
-fn wide(byte: u8) -> u64
+fn wide(byte: u8) -> usize
     ensures { λ r. ⌜ (r ≡ byte) × (r < 256) ⌝ }
 {
-    byte as u64
+    byte as usize
 }
 
 // The number of `size` bytes at index `at` of a file, at most four.
-fn number_at(size: usize, file: &[u8], at: usize) -> u64
+fn number_at(size: usize, file: &[u8], at: usize) -> usize
     requires { ⌜ (size ≤ 4) × (at + size ≤ length (now file)) ⌝ }
     ensures { λ r. ⌜ r ≡ numberAt size (now (file .entry)) at ⌝ }
 {
-    let mut n: u64 = 0;
+    let mut n: usize = 0;
     let mut left = size;
     while 0 < left {
         left -= 1;
@@ -47,75 +139,37 @@ fn number_at(size: usize, file: &[u8], at: usize) -> u64
     n
 }
 
-// Whether the field of `size` bytes at index `at` holds a number.
-fn is(size: usize, file: &[u8], at: usize, number: usize) -> bool
-    requires { ⌜ (size ≤ 4) × (at + size ≤ length (now file)) ⌝ }
-    ensures { λ r. ⌜ r ≡ fieldGood (now (file .entry)) (field at size (oneOf (number ∷ []))) ⌝ }
+// Whether a file holds in a field what it may.
+fn field_good(file: &[u8], field: Field) -> bool
+    requires { ⌜ (field .size ≤ 4) × (field .at + field .size ≤ length (now file)) ⌝ }
+    ensures { λ r. ⌜ r ≡ fieldGood (now (file .entry)) field ⌝ }
 {
-    number_at(size, file, at) == number as u64
-}
-
-// Whether the field of `size` bytes at index `at` holds one of two numbers.
-fn is_either(size: usize, file: &[u8], at: usize, first: usize, second: usize) -> bool
-    requires { ⌜ (size ≤ 4) × (at + size ≤ length (now file)) ⌝ }
-    ensures { λ r. ⌜ r ≡ fieldGood (now (file .entry)) (field at size (oneOf (first ∷ second ∷ []))) ⌝ }
-{
-    let number = number_at(size, file, at);
-    if number == first as u64 {
+    let found = number_at(field.size, file, field.at);
+    if found == field.number {
         return true;
     }
-    number == second as u64
+    let also = field.also;
+    match also {
+        Also::Only => false,
+        Also::Or(other) => found == other as usize,
+        Also::OrAnything => true,
+    }
 }
 
-// Whether the first four fields are good: `BM`, the length, 0, and where the rows begin.
-fn file_header_good(b: usize, h: usize, s: usize, file: &[u8]) -> bool
-    requires { ⌜ (h ≤ 176) × (s ≤ 36) × (62 ≤ length (now file)) ⌝ }
-    ensures { λ r. ⌜ r ≡ every (map (fieldGood (now (file .entry))) (take 4 (headerFields b h s))) ⌝ }
+// Whether every field of the header is good.
+fn header_good(b: usize, h: usize, s: usize, file: &[u8]) -> bool
+    requires { ⌜ (b ≤ 33) × (h ≤ 176) × (s ≤ 36) × (62 ≤ length (now file)) ⌝ }
+    ensures { λ r. ⌜ r ≡ every (map (fieldGood (now (file .entry))) (headerFields b h s)) ⌝ }
 {
-    if !is(2, file, 0, 0x4D42) {
-        return false;
+    let fields = table();
+    let mut i: usize = 0;
+    while i < 17 {
+        if !field_good(file, field_of(b, h, s, fields[i])) {
+            return false;
+        }
+        i += 1;
     }
-    if !is(4, file, 2, 62 + h * s) {
-        return false;
-    }
-    if !is(4, file, 6, 0) {
-        return false;
-    }
-    is(4, file, 10, 62)
-}
-
-// Whether the next five fields are good: 40, the width, the rows, one plane, one bit a dot.
-fn info_header_good(b: usize, h: usize, s: usize, file: &[u8]) -> bool
-    requires { ⌜ (b ≤ 33) × (62 ≤ length (now file)) ⌝ }
-    ensures { λ r. ⌜ r ≡ every (map (fieldGood (now (file .entry))) (take 5 (drop 4 (headerFields b h s)))) ⌝ }
-{
-    if !is(4, file, 14, 40) {
-        return false;
-    }
-    if !is(4, file, 18, 8 * b) {
-        return false;
-    }
-    if !is(4, file, 22, h) {
-        return false;
-    }
-    if !is(2, file, 26, 1) {
-        return false;
-    }
-    is(2, file, 28, 1)
-}
-
-// Whether the other fields are good: 0, the bytes of the rows, and the colours. The rest may hold anything.
-fn image_fields_good(b: usize, h: usize, s: usize, file: &[u8]) -> bool
-    requires { ⌜ (h ≤ 176) × (s ≤ 36) × (62 ≤ length (now file)) ⌝ }
-    ensures { λ r. ⌜ r ≡ every (map (fieldGood (now (file .entry))) (drop 9 (headerFields b h s))) ⌝ }
-{
-    if !is(4, file, 30, 0) {
-        return false;
-    }
-    if !is_either(4, file, 34, 0, h * s) {
-        return false;
-    }
-    is_either(4, file, 46, 0, 2)
+    true
 }
 
 // Whether a file is a bitmap of a picture.
@@ -123,16 +177,10 @@ pub fn bitmap_good(b: usize, h: usize, s: usize, file: &[u8]) -> bool
     requires { ⌜ (b ≤ 33) × (h ≤ 176) × (s ≤ 36) ⌝ }
     ensures { λ r. ⌜ r ≡ bitmapGood b h s (now (file .entry)) ⌝ }
 {
-    if file.len() != 62 + h * s {
+    if file.len() != file_length(h, s) {
         return false;
     }
-    if !file_header_good(b, h, s, file) {
-        return false;
-    }
-    if !info_header_good(b, h, s, file) {
-        return false;
-    }
-    image_fields_good(b, h, s, file)
+    header_good(b, h, s, file)
 }
 
 // The bitmap check: 0, or the number of the refusal.
@@ -151,8 +199,6 @@ pub fn check_bitmap(panel: u32, file: &[u8]) -> u8
 
 // ---- the writer
 
-const PALETTE: [u8; 8] = [0x00, 0x00, 0x00, 0x00, 0xFF, 0xFF, 0xFF, 0x00];
-
 // Writes a number as `size` bytes into `out`, from index `at` on.
 fn put_number(out: &mut [u8], at: usize, size: usize, n: usize)
     requires { ⌜ at + size ≤ length (now out) ⌝ }
@@ -167,48 +213,18 @@ fn put_number(out: &mut [u8], at: usize, size: usize, n: usize)
     }
 }
 
-// Writes the first 14 bytes of a file.
-fn write_file_header(b: usize, h: usize, s: usize, out: &mut [u8])
-    requires { ⌜ (h ≤ 176) × (s ≤ 36) × (62 ≤ length (now out)) ⌝ }
-    ensures { λ _. ⌜ now (out .exit) ≡ overlay (take 14 (header b h s)) (now (out .entry)) ⌝ }
-{
-    put_number(out, 0, 2, 0x4D42);
-    put_number(out, 2, 4, 62 + h * s);
-    put_number(out, 6, 4, 0);
-    put_number(out, 10, 4, 62);
-}
-
-// Writes the next 16 bytes.
-fn write_info_header(b: usize, h: usize, s: usize, out: &mut [u8])
-    requires { ⌜ (b ≤ 33) × (62 ≤ length (now out)) ⌝ }
-    ensures { λ _. ⌜ now (out .exit) ≡ overlayAt 14 (take 16 (drop 14 (header b h s))) (now (out .entry)) ⌝ }
-{
-    put_number(out, 14, 4, 40);
-    put_number(out, 18, 4, 8 * b);
-    put_number(out, 22, 4, h);
-    put_number(out, 26, 2, 1);
-    put_number(out, 28, 2, 1);
-}
-
-// Writes the rest of the header.
-fn write_image_fields(b: usize, h: usize, s: usize, out: &mut [u8])
-    requires { ⌜ (h ≤ 176) × (s ≤ 36) × (62 ≤ length (now out)) ⌝ }
-    ensures { λ _. ⌜ now (out .exit) ≡ overlayAt 30 (drop 30 (header b h s)) (now (out .entry)) ⌝ }
-{
-    put_number(out, 30, 4, 0);
-    put_number(out, 34, 4, h * s);
-    lists::fill_at(out, 38, 16, 0);
-    lists::put_at(out, 54, &PALETTE);
-}
-
 // Writes what stands before the rows.
 fn write_header(b: usize, h: usize, s: usize, out: &mut [u8])
     requires { ⌜ (b ≤ 33) × (h ≤ 176) × (s ≤ 36) × (62 ≤ length (now out)) ⌝ }
     ensures { λ _. ⌜ now (out .exit) ≡ overlay (header b h s) (now (out .entry)) ⌝ }
 {
-    write_file_header(b, h, s, out);
-    write_info_header(b, h, s, out);
-    write_image_fields(b, h, s, out);
+    let fields = table();
+    let mut k: usize = 0;
+    while k < 17 {
+        let field = field_of(b, h, s, fields[k]);
+        put_number(out, field.at, field.size, field.number);
+        k += 1;
+    }
 }
 
 // Writes row y of the picture that a slot holds, and 0 for its padding, into `out`, from index `at` on.
@@ -222,7 +238,7 @@ fn write_row(b: usize, h: usize, s: usize, raw: &[u8], y: usize, out: &mut [u8],
     lists::fill_at(out, at + b, s - b, 0);
 }
 
-// Writes the rows of the picture that a slot holds behind the header, bottom row first.
+// Writes the rows of the picture that a slot holds after the header, bottom row first.
 fn write_rows(b: usize, h: usize, s: usize, raw: &[u8], out: &mut [u8])
     requires { ⌜ (0 < b) × (b ≤ 33) × (b ≤ s) × (s ≤ 36) × (h ≤ 176) × (length (now raw) ≡ h * b)
         × (fileLength h s ≤ length (now out)) ⌝ }
@@ -246,12 +262,12 @@ pub fn write_bitmap(b: usize, h: usize, s: usize, raw: &[u8], out: &mut [u8]) ->
 {
     write_header(b, h, s, out);
     write_rows(b, h, s, raw, out);
-    62 + h * s
+    file_length(h, s)
 }
 
 // ---- the reader
 
-// Makes a slot hold the picture of a bitmap file: its rows stand behind the header, bottom row first.
+// Makes a slot hold the picture of a bitmap file: its rows stand after the header, bottom row first.
 pub fn read_bitmap(b: usize, h: usize, s: usize, file: &[u8], raw: &mut [u8])
     requires { ⌜ (0 < b) × (b ≤ 33) × (b ≤ s) × (s ≤ 36) × (h ≤ 176) × (length (now raw) ≡ h * b)
         × (fileLength h s ≤ length (now file)) ⌝ }

@@ -47,6 +47,14 @@ fits =
     (record { picture = omega arith; file = omega arith })
     (record { picture = omega arith; file = omega arith })
 
+-- no two panels have files of the same length
+pub one-panel : (p : ℕ) → p < 3 → (q : ℕ) → q < 3 → fileLength (rowsOf p) (strideOf p) ≡ fileLength (rowsOf q) (strideOf q) → p ≡ q
+one-panel =
+    each-panel (λ p. (q : ℕ) → q < 3 → fileLength (rowsOf p) (strideOf p) ≡ fileLength (rowsOf q) (strideOf q) → p ≡ q)
+    (each-panel (λ q. 1598 ≡ fileLength (rowsOf q) (strideOf q) → 0 ≡ q) (λ e. omega arith) (λ e. omega arith) (λ e. omega arith))
+    (each-panel (λ q. 2750 ≡ fileLength (rowsOf q) (strideOf q) → 1 ≡ q) (λ e. omega arith) (λ e. omega arith) (λ e. omega arith))
+    (each-panel (λ q. 6398 ≡ fileLength (rowsOf q) (strideOf q) → 2 ≡ q) (λ e. omega arith) (λ e. omega arith) (λ e. omega arith))
+
 module _ (b h s : ℕ) (pos : 0 < b) (within : b ≤ s) (file out : List ℕ) where
   pub refused : bitmapGood b h s file ≡ false → (0, out) ≡ normalized b h s file out
   unfolding normalized

@@ -3,7 +3,7 @@
 use libc::STDIN_FILENO;
 use libc::STDOUT_FILENO;
 ghost use mathlib.Core.Path.{_≡_};
-ghost use Prim.Native.Nat.{_*_, _≤_, _<_};
+ghost use Prim.Native.Nat.{ℕ, _*_, _≤_, _<_};
 ghost use lib.ListN.{length};
 ghost use Rattle.panel.specs.Panels.{rowBytesOf, rowsOf, strideOf};
 ghost use Rattle.bitmap.specs.Header.{fileLength};
@@ -43,17 +43,18 @@ fn normalize_for(panel: usize, file: &[u8], out: &mut [u8]) -> usize
     normalize(b, h, panel::stride(panel), file, &mut picture[..size], out)
 }
 
-// The panel whose bitmap files have this length; the last one for any other length, which no file then matches.
+// The panel whose bitmap files have this length; the last one where no panel's have it.
 fn panel_for(len: usize) -> usize
-    ensures { λ r. ⌜ r < 3 ⌝ }
+    ensures { λ r. ⌜ (r < 3) × ((p : ℕ) → p < 3 → len ≡ fileLength (rowsOf p) (strideOf p) → r ≡ p) ⌝ }
 {
-    if len == 1598 {
-        return 0;
+    let mut p: usize = 0;
+    while p < 2 {
+        if len == bitmap::file_length(panel::rows(p), panel::stride(p)) {
+            return p;
+        }
+        p += 1;
     }
-    if len == 2750 {
-        return 1;
-    }
-    2
+    p
 }
 
 // Room for the longest file.

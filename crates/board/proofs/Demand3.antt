@@ -9,7 +9,8 @@ use native.Mathlib.Nat.{mul-le-mul-right}
 use native.Mathlib.Omega.{arith}
 use lib.ListN.{length, replicate}
 use Rattle.panel.specs.Dots.{dot}
-use Rattle.settings.specs.Settings.{panelOf, settingsGood, rowBytesIn, rowsIn}
+use Rattle.settings.specs.Settings.{panelOf, settingsGood, rowBytesIn, rowsIn, shapeIn}
+use Rattle.panel.proofs.Panels.{size-of}
 use Rattle.settings.proofs.Accepted.{good-panel}
 use Rattle.picture.specs.Slots.{slotPicture}
 use Rattle.balance.specs.Sums.{sumOf, restSum}
@@ -17,42 +18,27 @@ use Rattle.balance.specs.Moves.{Dots, View, Moves}
 use Rattle.balance.specs.Moves as moves
 use Rattle.balance.proofs.Moves.{moves-within, moves-rest}
 use Rattle.run.specs.Due.{runFrames}
-use Rattle.run.proofs.Place.{frames-some}
-use Rattle.poll.specs.declared.Phase.{Phase}
-use Rattle.poll.specs.declared.Phase.the-variants.{Idle, Abandoned, Running}
+use Rattle.run.specs.declared.Phase.{Phase}
+use Rattle.run.specs.declared.Phase.the-variants.{Idle, Abandoned, Running}
 use Rattle.board.specs.State.{fileOf, storeBytes, openedState}
-use Rattle.board.specs.History.{Call, uploadRegion, uploadBitmap, start, poll, abandon, writeBitmap, callOn, eventsOf, memoryAfter, handedOut, atRest, Seen, seenAfter}
+use Rattle.board.specs.History.{Call, callOn, eventsOf, memoryAfter, handedOut, atRest, Seen, seenAfter}
 use Rattle.board.specs.Balance.{seenAtOpening, Balanced, Demand3}
 use Rattle.board.specs.declared.State.{State}
 use Rattle.board.proofs.Views.{Sees, rests, runs, stopped, standingOf, Agree, AgreeIn, OneMove}
-use Rattle.board.proofs.Uploads.{region-move, bitmap-move}
-use Rattle.board.proofs.Runs.{start-move, abandon-move, write-move}
-use Rattle.board.proofs.Polls.{poll-move}
+use Rattle.board.proofs.Effects.{effect}
+use Rattle.board.proofs.Moves.{one-move}
 use Rattle.board.proofs.Opening.{opened, opened-file, blank-slot, blank-dot}
 
--- ---- every call is one move
-
-call-move : (state : State) (memory : List ℕ) (seen : Seen) (view : View)
-    → AgreeIn (fileOf state) (state .phase) memory seen view
-    → (call : Call) → OneMove (fileOf state) view seen (callOn state memory call)
-call-move state memory seen view agree (uploadRegion slot x y width height payload) =
-    region-move state memory seen view agree slot x y width height payload
-call-move state memory seen view agree (uploadBitmap slot file) = bitmap-move state memory seen view agree slot file
-call-move state memory seen view agree (start slot tick) = start-move state memory seen view agree slot tick
-call-move state memory seen view agree (poll tick out) = poll-move state memory seen view agree tick out
-call-move state memory seen view agree abandon = abandon-move state memory seen view agree
-call-move state memory seen view agree (writeBitmap slot out) = write-move state memory seen view agree slot out
-
--- the same where the settings file is known by another name
-pub one-move : (file : List ℕ) (state : State) → fileOf state ≡ file → (memory : List ℕ) (seen : Seen) (view : View)
-    → AgreeIn file (state .phase) memory seen view
-    → (call : Call) → OneMove file view seen (callOn state memory call)
-one-move file state e memory seen view agree call =
-    subst
-    (λ (f : List ℕ). AgreeIn f (state .phase) memory seen view → OneMove f view seen (callOn state memory call))
-    e (λ a. call-move state memory seen view a call) agree
-
 -- ---- every list of calls is a list of moves
+
+-- a call is one move, where the settings file is known by this name
+move-of : (file : List ℕ) (state : State) → fileOf state ≡ file → (memory : List ℕ) (seen : Seen) (view : View)
+    → AgreeIn file (state .store .phase) memory seen view
+    → (call : Call) → OneMove file view seen (callOn state memory call)
+move-of file state e memory seen view agree call =
+    subst
+    (λ (f : List ℕ). AgreeIn f (state .store .phase) memory seen view → OneMove f view seen (callOn state memory call))
+    e (λ a. one-move state memory seen view a (effect state memory call)) agree
 
 -- moves lead from a view to one that agrees with the store at the end
 pub record Reaches (b h N : ℕ) (view : View) (handed : List (List ℕ)) (memory : List ℕ) (seen : Seen) : Type 0 where
@@ -62,13 +48,13 @@ pub record Reaches (b h N : ℕ) (view : View) (handed : List (List ℕ)) (memor
   pub agree : Agree b h phase memory seen last
 
 pub all-moves : (file : List ℕ) (state : State) → fileOf state ≡ file → (memory : List ℕ) (seen : Seen) (view : View)
-    → AgreeIn file (state .phase) memory seen view
+    → AgreeIn file (state .store .phase) memory seen view
     → (calls : List Call)
     → Reaches (rowBytesIn file) (rowsIn file) (runFrames file) view (handedOut (eventsOf state memory calls))
     (memoryAfter state memory calls) (seenAfter (rowBytesIn file) (rowsIn file) seen (eventsOf state memory calls))
-all-moves file state e memory seen view agree [] = record { phase = state .phase; last = view; moved = moves.none; agree = agree }
+all-moves file state e memory seen view agree [] = record { phase = state .store .phase; last = view; moved = moves.none; agree = agree }
 all-moves file state e memory seen view agree (call ∷ calls) =
-    let one = one-move file state e memory seen view agree call in
+    let one = move-of file state e memory seen view agree call in
     let rest =
     all-moves file (callOn state memory call .state) (one .file-kept) (callOn state memory call .memory) _
     (one .leads .next) (one .leads .agree) calls in
@@ -94,7 +80,7 @@ module _ (b h N : ℕ) (some : 0 < N) {first : Dots} (white : (x y : ℕ) → x 
 -- ---- the theorem
 
 -- from the state and the memory that an accepted opening leaves
-from-opened : (file : List ℕ) (n : ℕ) (l : ℕ) → settingsGood file ≡ true → l ≡ storeBytes file n → (calls : List Call)
+from-opened : (file : List ℕ) (n : ℕ) (l : ℕ) → settingsGood file ≡ true → l ≡ storeBytes (shapeIn file) n → (calls : List Call)
     → Balanced (rowBytesIn file) (rowsIn file) (runFrames file)
     (eventsOf (openedState file n) (replicate l 0xFF) calls)
     (memoryAfter (openedState file n) (replicate l 0xFF) calls)
@@ -102,7 +88,7 @@ from-opened file n l good exact calls =
     let b = rowBytesIn file in
     let h = rowsIn file in
     let N = runFrames file in
-    let some : 0 < N = frames-some (panelOf file) (good-panel file good) in
+    let some : 0 < N = size-of (panelOf file) (good-panel file good) .frames-some in
     let fits : h * b ≤ l = rw exact (first-fits n (h * b)) in
     let blank = blank-slot b h l fits in
     let white : (x y : ℕ) → x < 8 * b → y < h → dot b (slotPicture b h (replicate l 0xFF) 0) x y ≡ 1 =

@@ -6,41 +6,50 @@ use mathlib.Core.List.{List, _++_}
 use Prim.Native.Nat.{ℕ, _+_, _-_, _*_, _/_, _%_, _≤_, _<_}
 use native.Mathlib.Nat.{zero-mul}
 use native.Mathlib.Omega.{arith}
-use borrow.Author.Tests.{not-false, eqb-true, eqb-false}
+use borrow.Author.Tests.{not-false, leb-true, eqb-true, eqb-false}
 use lib.Arith.{digits-lt}
 use lib.Dec.{eqb, leb}
 use lib.ListN.{length, take, replicate, length-replicate, getD-replicate, replicate-append-replicate}
 use lib.Seq.{take-at}
-use Rattle.lists.proofs.Rules.{None, and-right}
+use Rattle.lists.proofs.Rules.{None, and-left, and-right, by-cases}
 use Rattle.lists.proofs.Rules as rules
 use Rattle.lists.proofs.Lists.{take-overlay}
 use Rattle.lists.proofs.Cases.{none, more, each}
 use Rattle.panel.specs.Dots.{bit, dot}
-use Rattle.settings.specs.Settings.{settingsGood, longestFile}
+use Rattle.settings.specs.Settings.{settingsGood, shapeIn, longestFile}
 use Rattle.picture.specs.Slots.{slotBytes, slotPicture}
-use Rattle.board.specs.State.{fileOf, storeBytes, openedState}
+use Rattle.picture.proofs.Slots.{blank-picture}
+use Rattle.board.specs.State.{fileOf, storeBytes, emptyState, openedState}
 use Rattle.board.specs.Calls.{reply, opening, openCases}
 use Rattle.board.specs.declared.Reply.{Reply}
-use Rattle.board.proofs.Cases.{by-opening}
-use Rattle.board.proofs.Stores.{blank-picture}
 
 -- ---- the call
 
+-- what an accepted opening has tested, and what it leaves
 pub record Opened (file : List ℕ) (n : ℕ) (lent : List ℕ) (r : Reply × List ℕ) : Type 0 where
   pub good : settingsGood file ≡ true
-  pub exact : length lent ≡ storeBytes file n
+  pub some : 1 ≤ n
+  pub few : n ≤ 7
+  pub exact : length lent ≡ storeBytes (shapeIn file) n
   pub leaves : r ≡ (reply 0 (openedState file n), replicate (length lent) 0xFF)
 
 pub opened : (file : List ℕ) (n : ℕ) (lent : List ℕ) → opening file n lent .0 .number ≡ 0 → Opened file n lent (opening file n lent)
+unfolding opening
 opened file n lent =
-    by-opening file n lent (λ r. r .0 .number ≡ 0 → Opened file n lent r) (λ number e z. absurd (eqb-false number 0 e z)) accepted
+    by-cases (λ (r : Reply × List ℕ). r .0 .number ≡ 0 → Opened file n lent r) (openCases file n (length lent))
+    (λ number. (reply number emptyState, lent)) (reply 0 (openedState file n), replicate (length lent) 0xFF) refl
+    (λ number e z. absurd (eqb-false number 0 e z)) accepted
   where
     accepted : None (openCases file n (length lent)) → _≡_ {A = ℕ} 0 0
         → Opened file n lent (reply 0 (openedState file n), replicate (length lent) 0xFF)
     accepted (rules.past good (rules.past sized rest)) z =
+        let all = not-false _ sized in
+        let slots = and-left (leb 1 n && leb n 7) (eqb (length lent) (storeBytes (shapeIn file) n)) all in
         record {
           good = not-false _ good;
-          exact = eqb-true _ _ (and-right (leb 1 n && leb n 7) (eqb (length lent) (storeBytes file n)) (not-false _ sized));
+          some = leb-true _ _ (and-left (leb 1 n) (leb n 7) slots);
+          few = leb-true _ _ (and-right (leb 1 n) (leb n 7) slots);
+          exact = eqb-true _ _ (and-right (leb 1 n && leb n 7) (eqb (length lent) (storeBytes (shapeIn file) n)) all);
           leaves = refl;
         }
 

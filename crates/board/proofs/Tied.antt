@@ -11,9 +11,10 @@ use denote.Triple.Clauses as Clauses
 use denote.Ref.{now}
 use Rattle.settings.specs.Settings.{rowBytesIn, rowsIn}
 use Rattle.run.specs.Due.{runFrames}
-use Rattle.poll.specs.Answers.{putOut}
 use Rattle.board.specs.History as H
-use Rattle.board.specs.History.{Call, Event, event, number, answered, Called, callOn, ofReply, ofPoll, eventsOf, memoryAfter}
+use Rattle.board.specs.History.{Call, Event, Called, callOn, ofReply, ofPoll, eventsOf, memoryAfter}
+use Rattle.board.specs.Calls.{polling}
+use Rattle.board.specs.Chains.{Parts, Chain, finished, more}
 use Rattle.board.specs.Balance.{Balanced}
 use Rattle.board.specs.declared.State.{State}
 use Rattle.board.specs.declared.Reply.{Reply}
@@ -42,162 +43,162 @@ use Rattle.board.proofs.State.poll.Reads as poll-reads
 
 -- ---- the values of a call: its arguments, its result and its parameters at exit, for which its contract holds
 
-pub record Open : Type 0 where
-  pub lifetimes : Lifetimes.Lfts 2
-  pub args : World.ArgsD open-fn.signature lifetimes
-  pub result : World.ResD open-fn.signature lifetimes
-  pub exit : Clauses.AtExit (FnKinds.endedOf 2 open-kinds.ps open-kinds.r) lifetimes
-  pub promised : open-reads.Learnt lifetimes args result exit
+pub record Kept (n : ℕ) (Args Result Exit : Lifetimes.Lfts n → Type 0)
+    (Learnt : (l : Lifetimes.Lfts n) → Args l → Result l → Exit l → Type 0) : Type 0 where
+  pub lifetimes : Lifetimes.Lfts n
+  pub args : Args lifetimes
+  pub result : Result lifetimes
+  pub exit : Exit lifetimes
+  pub promised : Learnt lifetimes args result exit
 
-pub record UploadRegion : Type 0 where
-  pub lifetimes : Lifetimes.Lfts 2
-  pub args : World.ArgsD region-fn.signature lifetimes
-  pub result : World.ResD region-fn.signature lifetimes
-  pub exit : Clauses.AtExit (FnKinds.endedOf 2 region-kinds.ps region-kinds.r) lifetimes
-  pub promised : region-reads.Learnt lifetimes args result exit
+abbrev pub Open : Type 0
+Open =
+    Kept 2 (World.ArgsD open-fn.signature) (World.ResD open-fn.signature)
+    (Clauses.AtExit (FnKinds.endedOf 2 open-kinds.ps open-kinds.r)) open-reads.Learnt
 
-pub record UploadBitmap : Type 0 where
-  pub lifetimes : Lifetimes.Lfts 2
-  pub args : World.ArgsD bitmap-fn.signature lifetimes
-  pub result : World.ResD bitmap-fn.signature lifetimes
-  pub exit : Clauses.AtExit (FnKinds.endedOf 2 bitmap-kinds.ps bitmap-kinds.r) lifetimes
-  pub promised : bitmap-reads.Learnt lifetimes args result exit
+abbrev pub UploadRegion : Type 0
+UploadRegion =
+    Kept 2 (World.ArgsD region-fn.signature) (World.ResD region-fn.signature)
+    (Clauses.AtExit (FnKinds.endedOf 2 region-kinds.ps region-kinds.r)) region-reads.Learnt
 
-pub record Start : Type 0 where
-  pub lifetimes : Lifetimes.Lfts 1
-  pub args : World.ArgsD start-fn.signature lifetimes
-  pub result : World.ResD start-fn.signature lifetimes
-  pub exit : Clauses.AtExit (FnKinds.endedOf 1 start-kinds.ps start-kinds.r) lifetimes
-  pub promised : start-reads.Learnt lifetimes args result exit
+abbrev pub UploadBitmap : Type 0
+UploadBitmap =
+    Kept 2 (World.ArgsD bitmap-fn.signature) (World.ResD bitmap-fn.signature)
+    (Clauses.AtExit (FnKinds.endedOf 2 bitmap-kinds.ps bitmap-kinds.r)) bitmap-reads.Learnt
 
-pub record Abandon : Type 0 where
-  pub lifetimes : Lifetimes.Lfts 1
-  pub args : World.ArgsD abandon-fn.signature lifetimes
-  pub result : World.ResD abandon-fn.signature lifetimes
-  pub exit : Clauses.AtExit (FnKinds.endedOf 1 abandon-kinds.ps abandon-kinds.r) lifetimes
-  pub promised : abandon-reads.Learnt lifetimes args result exit
+abbrev pub Start : Type 0
+Start =
+    Kept 1 (World.ArgsD start-fn.signature) (World.ResD start-fn.signature)
+    (Clauses.AtExit (FnKinds.endedOf 1 start-kinds.ps start-kinds.r)) start-reads.Learnt
 
-pub record Poll : Type 0 where
-  pub lifetimes : Lifetimes.Lfts 2
-  pub args : World.ArgsD poll-fn.signature lifetimes
-  pub result : World.ResD poll-fn.signature lifetimes
-  pub exit : Clauses.AtExit (FnKinds.endedOf 2 poll-kinds.ps poll-kinds.r) lifetimes
-  pub promised : poll-reads.Learnt lifetimes args result exit
+abbrev pub Abandon : Type 0
+Abandon =
+    Kept 1 (World.ArgsD abandon-fn.signature) (World.ResD abandon-fn.signature)
+    (Clauses.AtExit (FnKinds.endedOf 1 abandon-kinds.ps abandon-kinds.r)) abandon-reads.Learnt
 
-pub record WriteBitmap : Type 0 where
-  pub lifetimes : Lifetimes.Lfts 2
-  pub args : World.ArgsD write-fn.signature lifetimes
-  pub result : World.ResD write-fn.signature lifetimes
-  pub exit : Clauses.AtExit (FnKinds.endedOf 2 write-kinds.ps write-kinds.r) lifetimes
-  pub promised : write-reads.Learnt lifetimes args result exit
+abbrev pub Poll : Type 0
+Poll =
+    Kept 2 (World.ArgsD poll-fn.signature) (World.ResD poll-fn.signature)
+    (Clauses.AtExit (FnKinds.endedOf 2 poll-kinds.ps poll-kinds.r)) poll-reads.Learnt
 
--- Calls one after the other: each is given the state and the memory that the one before it left.
-pub data Chain : State → List ℕ → List Event → List ℕ → Type 0 where
-  finished : {s : State} {m : List ℕ} → Chain s m [] m
-  uploadRegion : {u : List ℕ} {events : List Event} (c : UploadRegion)
-      → Chain (c .result .state) (now (c .exit .1 .0)) events u
-      → Chain (c .args .0) (now (c .args .1 .0))
-      (event (H.uploadRegion (c .args .1 .1 .0) (c .args .1 .1 .1 .0) (c .args .1 .1 .1 .1 .0) (c .args .1 .1 .1 .1 .1 .0) (c .args .1 .1 .1 .1 .1 .1 .0)
-      (now (c .args .1 .1 .1 .1 .1 .1 .1 .0))) (now (c .args .1 .0)) (number (c .result .number)) [] ∷ events)
-      u
-  uploadBitmap : {u : List ℕ} {events : List Event} (c : UploadBitmap)
-      → Chain (c .result .state) (now (c .exit .1 .0)) events u
-      → Chain (c .args .0) (now (c .args .1 .0))
-      (event (H.uploadBitmap (c .args .1 .1 .0) (now (c .args .1 .1 .1 .0))) (now (c .args .1 .0)) (number (c .result .number)) [] ∷ events) u
-  start : {u : List ℕ} {events : List Event} (c : Start)
-      → Chain (c .result .state) (now (c .args .1 .0)) events u
-      → Chain (c .args .0) (now (c .args .1 .0))
-      (event (H.start (c .args .1 .1 .0) (c .args .1 .1 .1 .0)) (now (c .args .1 .0)) (number (c .result .number)) [] ∷ events) u
-  abandon : {u : List ℕ} {events : List Event} (c : Abandon)
-      → Chain (c .result .state) (now (c .args .1 .0)) events u
-      → Chain (c .args .0) (now (c .args .1 .0))
-      (event H.abandon (now (c .args .1 .0)) (number (c .result .number)) [] ∷ events) u
-  poll : {u : List ℕ} {events : List Event} (c : Poll)
-      → Chain (c .result .state) (now (c .exit .1 .1 .0)) events u
-      → Chain (c .args .0) (now (c .args .1 .1 .0))
-      (event (H.poll (c .args .1 .0) (now (c .args .1 .1 .1 .0))) (now (c .args .1 .1 .0)) (answered (c .result .answer))
-      (putOut (c .result .answer) (now (c .exit .1 .1 .1 .0)))
-      ∷ events)
-      u
-  writeBitmap : {u : List ℕ} {events : List Event} (c : WriteBitmap)
-      → Chain (c .result .state) (now (c .args .1 .0)) events u
-      → Chain (c .args .0) (now (c .args .1 .0))
-      (event (H.writeBitmap (c .args .1 .1 .0) (now (c .args .1 .1 .1 .0))) (now (c .args .1 .0)) (number (c .result .number)) [] ∷ events) u
+abbrev pub WriteBitmap : Type 0
+WriteBitmap =
+    Kept 2 (World.ArgsD write-fn.signature) (World.ResD write-fn.signature)
+    (Clauses.AtExit (FnKinds.endedOf 2 write-kinds.ps write-kinds.r)) write-reads.Learnt
 
--- ---- a chain is a list of calls
+-- ---- the parts of each call: the places of its arguments are named here and nowhere else
 
-abbrev callsOf : {s : State} {m : List ℕ} {events : List Event} {u : List ℕ} → Chain s m events u → List Call
+-- a call that answers a number: its memory at entry, its reply, and the memory and the output at exit
+abbrev replied : State → (before : List ℕ) → Call → Reply → (after out : List ℕ) → Parts
+replied state before call r after out =
+    record { state = state; memory = before; call = call; left = ofReply call before r after out }
+
+abbrev pub regionParts : UploadRegion → Parts
+regionParts c =
+    replied (c .args .0) (now (c .args .1 .0))
+    (H.uploadRegion (c .args .1 .1 .0) (c .args .1 .1 .1 .0) (c .args .1 .1 .1 .1 .0) (c .args .1 .1 .1 .1 .1 .0)
+    (c .args .1 .1 .1 .1 .1 .1 .0) (now (c .args .1 .1 .1 .1 .1 .1 .1 .0)))
+    (c .result) (now (c .exit .1 .0)) []
+
+abbrev pub bitmapParts : UploadBitmap → Parts
+bitmapParts c =
+    replied (c .args .0) (now (c .args .1 .0)) (H.uploadBitmap (c .args .1 .1 .0) (now (c .args .1 .1 .1 .0)))
+    (c .result) (now (c .exit .1 .0)) []
+
+abbrev pub startParts : Start → Parts
+startParts c =
+    replied (c .args .0) (now (c .args .1 .0)) (H.start (c .args .1 .1 .0) (c .args .1 .1 .1 .0)) (c .result) (now (c .args .1 .0)) []
+
+abbrev pub abandonParts : Abandon → Parts
+abandonParts c = replied (c .args .0) (now (c .args .1 .0)) H.abandon (c .result) (now (c .args .1 .0)) []
+
+abbrev pub writeParts : WriteBitmap → Parts
+writeParts c =
+    replied (c .args .0) (now (c .args .1 .0)) (H.writeBitmap (c .args .1 .1 .0) (now (c .args .1 .1 .1 .0)))
+    (c .result) (now (c .args .1 .0)) (now (c .exit .1 .1 .1 .0))
+
+abbrev pub pollParts : Poll → Parts
+pollParts c =
+    let call = H.poll (c .args .1 .0) (now (c .args .1 .1 .1 .0)) in
+    let before = now (c .args .1 .1 .0) in
+    record {
+      state = c .args .0;
+      memory = before;
+      call = call;
+      left = ofPoll call before (polling (c .result .answer) (c .result .state) (now (c .exit .1 .1 .0)) (now (c .exit .1 .1 .1 .0)));
+    }
+
+-- what an opening was given and left
+abbrev pub openedFile : Open → List ℕ
+openedFile o = now (o .args .0)
+
+abbrev pub openedSlots : Open → ℕ
+openedSlots o = o .args .1 .0
+
+abbrev pub openedMemory : Open → List ℕ
+openedMemory o = now (o .exit .1 .1 .0)
+
+abbrev lentMemory : Open → List ℕ
+lentMemory o = now (o .args .1 .1 .0)
+
+-- ---- one call that keeps its contract
+
+pub data Step : Parts → Type 0 where
+  uploadRegion : (c : UploadRegion) → Step (regionParts c)
+  uploadBitmap : (c : UploadBitmap) → Step (bitmapParts c)
+  start : (c : Start) → Step (startParts c)
+  abandon : (c : Abandon) → Step (abandonParts c)
+  poll : (c : Poll) → Step (pollParts c)
+  writeBitmap : (c : WriteBitmap) → Step (writeParts c)
+
+-- it left what the definition of its call says
+pub kept : {p : Parts} → Step p → p .left ≡ callOn (p .state) (p .memory) (p .call)
+kept {p} (uploadRegion c) = ap (λ (z : Reply × List ℕ). ofReply (p .call) (p .memory) (z .0) (z .1) []) (c .promised)
+kept {p} (uploadBitmap c) = ap (λ (z : Reply × List ℕ). ofReply (p .call) (p .memory) (z .0) (z .1) []) (c .promised)
+kept {p} (start c) = ap (λ (r : Reply). ofReply (p .call) (p .memory) r (p .memory) []) (c .promised)
+kept {p} (abandon c) = ap (λ (r : Reply). ofReply (p .call) (p .memory) r (p .memory) []) (c .promised)
+kept {p} (poll c) = ap (ofPoll (p .call) (p .memory)) (c .promised)
+kept {p} (writeBitmap c) = ap (λ (z : Reply × List ℕ). ofReply (p .call) (p .memory) (z .0) (p .memory) (z .1)) (c .promised)
+
+-- ---- a chain of such calls is a list of calls
+
+abbrev pub callsOf : {s : State} {m : List ℕ} {events : List Event} {u : List ℕ} → Chain Step s m events u → List Call
 callsOf finished = []
-callsOf (uploadRegion c rest) =
-    H.uploadRegion (c .args .1 .1 .0) (c .args .1 .1 .1 .0) (c .args .1 .1 .1 .1 .0) (c .args .1 .1 .1 .1 .1 .0) (c .args .1 .1 .1 .1 .1 .1 .0)
-    (now (c .args .1 .1 .1 .1 .1 .1 .1 .0))
-    ∷ callsOf rest
-callsOf (uploadBitmap c rest) = H.uploadBitmap (c .args .1 .1 .0) (now (c .args .1 .1 .1 .0)) ∷ callsOf rest
-callsOf (start c rest) = H.start (c .args .1 .1 .0) (c .args .1 .1 .1 .0) ∷ callsOf rest
-callsOf (abandon c rest) = H.abandon ∷ callsOf rest
-callsOf (poll c rest) = H.poll (c .args .1 .0) (now (c .args .1 .1 .1 .0)) ∷ callsOf rest
-callsOf (writeBitmap c rest) = H.writeBitmap (c .args .1 .1 .0) (now (c .args .1 .1 .1 .0)) ∷ callsOf rest
+callsOf (more {p = p} step rest) = p .call ∷ callsOf rest
 
 -- the events and the memory at the end are those of that list
-record Listed (s : State) (m : List ℕ) (calls : List Call) (events : List Event) (u : List ℕ) : Type 0 where
-  seen : eventsOf s m calls ≡ events
-  left : memoryAfter s m calls ≡ u
+pub record Listed (s : State) (m : List ℕ) (calls : List Call) (events : List Event) (u : List ℕ) : Type 0 where
+  pub seen : eventsOf s m calls ≡ events
+  pub left : memoryAfter s m calls ≡ u
 
 -- one call more, which left what its definition says
-next : (s : State) (m : List ℕ) (call : Call) {c : Called} {calls : List Call} {events : List Event} {u : List ℕ} → c ≡ callOn s m call
-    → Listed (c .state) (c .memory) calls events u → Listed s m (call ∷ calls) (c .seen ∷ events) u
-next s m call {c} {calls} {events} {u} e l =
+next : (p : Parts) {calls : List Call} {events : List Event} {u : List ℕ} → p .left ≡ callOn (p .state) (p .memory) (p .call)
+    → Listed (p .left .state) (p .left .memory) calls events u
+    → Listed (p .state) (p .memory) (p .call ∷ calls) (p .left .seen ∷ events) u
+next p {calls} {events} {u} e l =
     record {
-      seen = rw (← e) (ap (λ (es : List Event). c .seen ∷ es) (l .seen));
+      seen = rw (← e) (ap (λ (es : List Event). p .left .seen ∷ es) (l .seen));
       left = rw (← e) (l .left);
     }
 
-listed : {s : State} {m : List ℕ} {events : List Event} {u : List ℕ} (chain : Chain s m events u) → Listed s m (callsOf chain) events u
+pub listed : {s : State} {m : List ℕ} {events : List Event} {u : List ℕ} (chain : Chain Step s m events u) → Listed s m (callsOf chain) events u
 listed finished = record { seen = refl; left = refl }
-listed (uploadRegion c rest) =
-    next (c .args .0) (now (c .args .1 .0))
-    (H.uploadRegion (c .args .1 .1 .0) (c .args .1 .1 .1 .0) (c .args .1 .1 .1 .1 .0) (c .args .1 .1 .1 .1 .1 .0) (c .args .1 .1 .1 .1 .1 .1 .0)
-    (now (c .args .1 .1 .1 .1 .1 .1 .1 .0)))
-    (ap (λ (z : Reply × List ℕ). ofReply (H.uploadRegion (c .args .1 .1 .0) (c .args .1 .1 .1 .0) (c .args .1 .1 .1 .1 .0) (c .args .1 .1 .1 .1 .1 .0) (c .args .1 .1 .1 .1 .1 .1 .0)
-    (now (c .args .1 .1 .1 .1 .1 .1 .1 .0))) (now (c .args .1 .0)) (z .0) (z .1)) (c .promised))
-    (listed rest)
-listed (uploadBitmap c rest) =
-    next (c .args .0) (now (c .args .1 .0))
-    (H.uploadBitmap (c .args .1 .1 .0) (now (c .args .1 .1 .1 .0)))
-    (ap (λ (z : Reply × List ℕ). ofReply (H.uploadBitmap (c .args .1 .1 .0) (now (c .args .1 .1 .1 .0))) (now (c .args .1 .0)) (z .0) (z .1)) (c .promised))
-    (listed rest)
-listed (start c rest) =
-    next (c .args .0) (now (c .args .1 .0)) (H.start (c .args .1 .1 .0) (c .args .1 .1 .1 .0))
-    (ap (λ (r : Reply). ofReply (H.start (c .args .1 .1 .0) (c .args .1 .1 .1 .0)) (now (c .args .1 .0)) r (now (c .args .1 .0))) (c .promised))
-    (listed rest)
-listed (abandon c rest) =
-    next (c .args .0) (now (c .args .1 .0)) H.abandon
-    (ap (λ (r : Reply). ofReply H.abandon (now (c .args .1 .0)) r (now (c .args .1 .0))) (c .promised))
-    (listed rest)
-listed (poll c rest) =
-    next (c .args .0) (now (c .args .1 .1 .0)) (H.poll (c .args .1 .0) (now (c .args .1 .1 .1 .0)))
-    (ap (ofPoll (H.poll (c .args .1 .0) (now (c .args .1 .1 .1 .0))) (now (c .args .1 .1 .0))) (c .promised))
-    (listed rest)
-listed (writeBitmap c rest) =
-    next (c .args .0) (now (c .args .1 .0))
-    (H.writeBitmap (c .args .1 .1 .0) (now (c .args .1 .1 .1 .0)))
-    (ap (λ (z : Reply × List ℕ). ofReply (H.writeBitmap (c .args .1 .1 .0) (now (c .args .1 .1 .1 .0))) (now (c .args .1 .0)) (z .0) (now (c .args .1 .0))) (c .promised))
-    (listed rest)
+listed (more {p = p} step rest) = next p (kept step) (listed rest)
 
 -- ---- the demand, from the contracts alone: over every chain of calls since an opening that answered 0
 
 pub demand3-tied : (o : Open) → o .result .number ≡ 0 → {events : List Event} {u : List ℕ}
-    → Chain (o .result .state) (now (o .exit .1 .1 .0)) events u
-    → Balanced (rowBytesIn (now (o .args .0))) (rowsIn (now (o .args .0))) (runFrames (now (o .args .0))) events u
+    → Chain Step (o .result .state) (openedMemory o) events u
+    → Balanced (rowBytesIn (openedFile o)) (rowsIn (openedFile o)) (runFrames (openedFile o)) events u
 demand3-tied o e {events} {u} chain =
-    let file : List ℕ = now (o .args .0) in
+    let file : List ℕ = openedFile o in
     let b : ℕ = rowBytesIn file in
     let h : ℕ = rowsIn file in
     let N : ℕ = runFrames file in
     let calls : List Call = callsOf chain in
-    let l : Listed (o .result .state) (now (o .exit .1 .1 .0)) calls events u = listed chain in
+    let l : Listed (o .result .state) (openedMemory o) calls events u = listed chain in
     let from : (z : Reply × List ℕ) → Type 0 = λ z. Balanced b h N (eventsOf (z .0 .state) (z .1) calls) (memoryAfter (z .0 .state) (z .1) calls) in
-    let whole = demand3 file (o .args .1 .0) (now (o .args .1 .1 .0)) (ap (λ (z : Reply × List ℕ). z .0 .number) (sym (o .promised)) ∙ e) calls in
-    let opened : from (o .result, now (o .exit .1 .1 .0)) = subst from (sym (o .promised)) whole in
+    let whole = demand3 file (openedSlots o) (lentMemory o) (ap (λ (z : Reply × List ℕ). z .0 .number) (sym (o .promised)) ∙ e) calls in
+    let opened : from (o .result, openedMemory o) = subst from (sym (o .promised)) whole in
     subst (λ (m : List ℕ). Balanced b h N events m) (l .left)
-    (subst (λ (es : List Event). Balanced b h N es (memoryAfter (o .result .state) (now (o .exit .1 .1 .0)) calls)) (l .seen) opened)
+    (subst (λ (es : List Event). Balanced b h N es (memoryAfter (o .result .state) (openedMemory o) calls)) (l .seen) opened)

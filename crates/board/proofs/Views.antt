@@ -18,15 +18,15 @@ use Rattle.run.specs.Place.{nextPosition}
 use Rattle.run.specs.declared.Position.{Position}
 use Rattle.run.specs.declared.Position.the-variants.{Start, Line, Stop}
 use Rattle.run.specs.declared.Run.{Run}
-use Rattle.poll.specs.declared.Phase.{Phase}
-use Rattle.poll.specs.declared.Phase.the-variants.{Idle, Abandoned, Running}
+use Rattle.run.specs.declared.Phase.{Phase}
+use Rattle.run.specs.declared.Phase.the-variants.{Idle, Abandoned, Running}
 use Rattle.board.specs.State.{fileOf}
 use Rattle.board.specs.Calls.{isRunsSlot}
 use Rattle.board.specs.History.{Called, putBy, Standing, atRest, underWay, abandoned, Seen, afterEvent}
 
 -- ---- where the lines of a run stand
 
--- before the first line that one is next, behind the last one all are out
+-- before the first line that one is next, after the last one all are out
 abbrev pub placeOf : Position → Place
 placeOf (Start k) = line 1 0 0
 placeOf (Line stage frame row) = line stage frame row
@@ -83,7 +83,7 @@ LeadsIn file = Leads (rowBytesIn file) (rowsIn file) (runFrames file)
 -- a call keeps the settings file, and is one move
 pub record OneMove (file : List ℕ) (view : View) (seen : Seen) (called : Called) : Type 0 where
   pub file-kept : fileOf (called .state) ≡ file
-  pub leads : LeadsIn file view (putBy (called .seen)) (called .state .phase) (called .memory)
+  pub leads : LeadsIn file view (putBy (called .seen)) (called .state .store .phase) (called .memory)
       (afterEvent (rowBytesIn file) (rowsIn file) seen (called .seen))
 
 -- ---- calls that leave the view

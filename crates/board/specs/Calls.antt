@@ -1,6 +1,6 @@
 -- Document 01, "Store and bitmaps", "The run and its time" and "Numbers given back": what each call does, on any input. A refusal is
--- its number and the state as given; every lent byte stays. The cases of a call are its refusals in order; those that a call adds to
--- the store's 13 and 1 are its own.
+-- its number and the state as given; every lent byte stays. The cases of a call are its refusals in order: the store's 13 and 1, then
+-- its own.
 -- Assumes nothing.
 use Prim.Native.Nat.{ℕ}
 use mathlib.Core.Bool.{Bool, true, false, not, _&&_}
@@ -9,7 +9,8 @@ use lib.Dec.{eqb, leb, ltb}
 use lib.ListN.{length, replicate}
 use Rattle.lists.specs.Lists.{overlay}
 use Rattle.lists.specs.Rules.{Case, case, firstOf}
-use Rattle.settings.specs.Settings.{settingsGood, rowBytesIn, rowsIn, strideIn}
+use Rattle.panel.specs.declared.Shape.{Shape}
+use Rattle.settings.specs.Settings.{settingsGood, shapeIn}
 use Rattle.picture.specs.Slots.{slotPicture, withPicture}
 use Rattle.picture.specs.Regions.{regionCases, withRegion}
 use Rattle.bitmap.specs.Header.{fileLength}
@@ -20,10 +21,11 @@ use Rattle.poll.specs.HandOut.{Outcome, outcome}
 use Rattle.poll.specs.Poll.{pollRun}
 use Rattle.poll.specs.declared.Answer.{Answer}
 use Rattle.poll.specs.declared.Answer.the-variants as answer
-use Rattle.poll.specs.declared.Phase.{Phase}
-use Rattle.poll.specs.declared.Phase.the-variants.{Idle, Abandoned, Running}
-use Rattle.board.specs.State.{fileOf, withPhase, storeBytes, storeCases, emptyState, openedState}
+use Rattle.run.specs.declared.Phase.{Phase}
+use Rattle.run.specs.declared.Phase.the-variants.{Idle, Abandoned, Running}
+use Rattle.board.specs.State.{fileOf, sizesOf, withPhase, storeBytes, storeCases, emptyState, openedState}
 use Rattle.board.specs.declared.State.{State}
+use Rattle.board.specs.declared.Store.{Store}
 use Rattle.board.specs.declared.Reply.{Reply}
 
 abbrev pub reply : (number : ℕ) → State → Reply
@@ -54,7 +56,7 @@ isRunsSlot (Running run) slot = eqb (run .slot) slot
 abbrev pub openCases : (file : List ℕ) (n memoryLength : ℕ) → List Case
 openCases file n memoryLength =
     case (not (settingsGood file)) 2
-    ∷ case (not (leb 1 n && leb n 7 && eqb memoryLength (storeBytes file n))) 1
+    ∷ case (not (leb 1 n && leb n 7 && eqb memoryLength (storeBytes (shapeIn file) n))) 1
     ∷ []
 
 unfoldable pub opening : (file : List ℕ) (n : ℕ) (memory : List ℕ) → Reply × List ℕ
@@ -65,43 +67,48 @@ opening file n memory =
 
 -- ---- uploads: 13, 1, 3, 7, then 5, 6, or 4
 
-abbrev pub uploadOwn : (state : State) (slot : ℕ) → List Case
-uploadOwn state slot = case (not (takesPictures (state .slots) slot)) 3 ∷ case (isRunsSlot (state .phase) slot) 7 ∷ []
+abbrev pub uploadOwn : (store : Store) (slot : ℕ) → List Case
+uploadOwn store slot = case (not (takesPictures (store .slots) slot)) 3 ∷ case (isRunsSlot (store .phase) slot) 7 ∷ []
 
 abbrev pub uploadCases : (state : State) (memoryLength slot : ℕ) → List Case
-uploadCases state memoryLength slot = storeCases state memoryLength ++ uploadOwn state slot
+uploadCases state memoryLength slot = storeCases state memoryLength ++ uploadOwn (state .store) slot
 
-abbrev pub bitmapCases : (settings file : List ℕ) → List Case
-bitmapCases settings file = case (not (bitmapGood (rowBytesIn settings) (rowsIn settings) (strideIn settings) file)) 4 ∷ []
+abbrev pub bitmapCases : (shape : Shape) (file : List ℕ) → List Case
+bitmapCases shape file = case (not (bitmapGood (shape .bytes) (shape .rows) (shape .stride) file)) 4 ∷ []
+
+-- the memory with the dots of a region painted, and with a slot that holds the picture of a bitmap file
+abbrev pub regionDrawn : (shape : Shape) (memory : List ℕ) (slot x y width height : ℕ) (payload : List ℕ) → List ℕ
+regionDrawn shape = withRegion (shape .bytes) (shape .rows)
+
+abbrev pub bitmapDrawn : (shape : Shape) (memory : List ℕ) (slot : ℕ) (file : List ℕ) → List ℕ
+bitmapDrawn shape memory slot file =
+    withPicture (shape .bytes) (shape .rows) memory slot (readPicture (shape .bytes) (shape .rows) (shape .stride) file)
 
 unfoldable pub regionUpload : (state : State) (memory : List ℕ) (slot x y width height : ℕ) (payload : List ℕ) → Reply × List ℕ
 regionUpload state memory slot x y width height payload =
     firstOf
     (uploadCases state (length memory) slot
-    ++ regionCases (rowBytesIn (fileOf state)) (rowsIn (fileOf state)) x y width height payload)
+    ++ regionCases (sizesOf state .bytes) (sizesOf state .rows) x y width height payload)
     (λ number. (reply number state, memory))
-    (reply 0 state, withRegion (rowBytesIn (fileOf state)) (rowsIn (fileOf state)) memory slot x y width height payload)
+    (reply 0 state, regionDrawn (sizesOf state) memory slot x y width height payload)
 
 unfoldable pub bitmapUpload : (state : State) (memory : List ℕ) (slot : ℕ) (file : List ℕ) → Reply × List ℕ
 bitmapUpload state memory slot file =
-    firstOf (uploadCases state (length memory) slot ++ bitmapCases (fileOf state) file)
-    (λ number. (reply number state, memory)) (
-      reply 0 state,
-      withPicture (rowBytesIn (fileOf state)) (rowsIn (fileOf state)) memory slot
-          (readPicture (rowBytesIn (fileOf state)) (rowsIn (fileOf state)) (strideIn (fileOf state)) file),
-    )
+    firstOf (uploadCases state (length memory) slot ++ bitmapCases (sizesOf state) file)
+    (λ number. (reply number state, memory))
+    (reply 0 state, bitmapDrawn (sizesOf state) memory slot file)
 
 -- ---- start: 13, 1, 8, 12, 3
 
-abbrev pub startOwn : (state : State) (slot : ℕ) → List Case
-startOwn state slot =
-    case (isRunning (state .phase)) 8
-    ∷ case (isAbandoned (state .phase)) 12
-    ∷ case (not (takesPictures (state .slots) slot)) 3
+abbrev pub startOwn : (store : Store) (slot : ℕ) → List Case
+startOwn store slot =
+    case (isRunning (store .phase)) 8
+    ∷ case (isAbandoned (store .phase)) 12
+    ∷ case (not (takesPictures (store .slots) slot)) 3
     ∷ []
 
 abbrev pub startCases : (state : State) (memoryLength slot : ℕ) → List Case
-startCases state memoryLength slot = storeCases state memoryLength ++ startOwn state slot
+startCases state memoryLength slot = storeCases state memoryLength ++ startOwn (state .store) slot
 
 unfoldable pub starting : (state : State) (memoryLength slot : ℕ) (tick : Tick) → Reply
 starting state memoryLength slot tick =
@@ -111,11 +118,11 @@ starting state memoryLength slot tick =
 
 -- ---- abandon: 13, 1, 9
 
-abbrev pub abandonOwn : (state : State) → List Case
-abandonOwn state = case (not (isRunning (state .phase))) 9 ∷ []
+abbrev pub abandonOwn : (store : Store) → List Case
+abandonOwn store = case (not (isRunning (store .phase))) 9 ∷ []
 
 abbrev pub abandonCases : (state : State) (memoryLength : ℕ) → List Case
-abandonCases state memoryLength = storeCases state memoryLength ++ abandonOwn state
+abandonCases state memoryLength = storeCases state memoryLength ++ abandonOwn (state .store)
 
 unfoldable pub abandoning : (state : State) (memoryLength : ℕ) → Reply
 abandoning state memoryLength =
@@ -141,26 +148,24 @@ unfoldable pub polled : (state : State) (tick : Tick) (memory out : List ℕ) �
 polled state tick memory out =
     firstOf (storeCases state (length memory))
     (λ number. polling (answer.Refused number) state memory out)
-    (pollPhase state tick memory out (state .phase))
+    (pollPhase state tick memory out (state .store .phase))
 
 -- ---- the writer: 13, 1, 3, 11
 
-abbrev pub writeOwn : (state : State) (slot outLength : ℕ) → List Case
-writeOwn state slot outLength =
-    case (ltb (state .slots) slot) 3
-    ∷ case (ltb outLength (fileLength (rowsIn (fileOf state)) (strideIn (fileOf state)))) 11
-    ∷ []
+abbrev pub writeOwn : (store : Store) (shape : Shape) (slot outLength : ℕ) → List Case
+writeOwn store shape slot outLength =
+    case (ltb (store .slots) slot) 3 ∷ case (ltb outLength (fileLength (shape .rows) (shape .stride))) 11 ∷ []
 
 abbrev pub writeCases : (state : State) (memoryLength slot outLength : ℕ) → List Case
-writeCases state memoryLength slot outLength = storeCases state memoryLength ++ writeOwn state slot outLength
+writeCases state memoryLength slot outLength = storeCases state memoryLength ++ writeOwn (state .store) (sizesOf state) slot outLength
+
+-- the output with the bitmap file of a slot's picture at its front
+abbrev pub bitmapWritten : (shape : Shape) (memory : List ℕ) (slot : ℕ) (out : List ℕ) → List ℕ
+bitmapWritten shape memory slot =
+    overlay (writtenFile (shape .bytes) (shape .rows) (shape .stride) (slotPicture (shape .bytes) (shape .rows) memory slot))
 
 unfoldable pub bitmapWrite : (state : State) (memory : List ℕ) (slot : ℕ) (out : List ℕ) → Reply × List ℕ
 bitmapWrite state memory slot out =
     firstOf (writeCases state (length memory) slot (length out))
-    (λ number. (reply number state, out)) (
-      reply 0 state,
-      overlay
-          (writtenFile (rowBytesIn (fileOf state)) (rowsIn (fileOf state)) (strideIn (fileOf state))
-          (slotPicture (rowBytesIn (fileOf state)) (rowsIn (fileOf state)) memory slot))
-          out,
-    )
+    (λ number. (reply number state, out))
+    (reply 0 state, bitmapWritten (sizesOf state) memory slot out)

@@ -1,65 +1,52 @@
--- What internal functions say: a state by its parts, a slot, and what is put into it.
+-- What internal functions say: a state by its parts, what the tests of a call found, and what is put into a slot.
 -- Assumes nothing.
-use Prim.Native.Nat.{ℕ, _+_, _*_, _≤_, _<_}
+use Prim.Native.Nat.{ℕ}
 use mathlib.Core.Path.{_≡_}
-use mathlib.Core.Bool.{true}
+use mathlib.Core.Bool.{true, cond}
 use mathlib.Core.List.{List}
-use Rattle.lists.specs.Rules.{firstOf}
-use Rattle.settings.specs.Settings.{settingsGood, rowBytesIn, rowsIn, strideIn}
-use Rattle.settings.specs.Facts.{Accepted}
-use Rattle.settings.specs.declared.Layout.{Layout}
-use Rattle.picture.specs.Slots.{withPicture}
-use Rattle.picture.specs.Regions.{regionCases, withRegion}
-use Rattle.bitmap.specs.Bitmap.{readPicture}
-use Rattle.poll.specs.declared.Phase.{Phase}
+use lib.Dec.{eqb}
+use Rattle.lists.specs.Rules.{Case, firstOf}
+use Rattle.panel.specs.Facts.{Sized}
+use Rattle.panel.specs.declared.Shape.{Shape}
+use Rattle.settings.specs.Plans.{PlanOf}
+use Rattle.settings.specs.declared.Planned.{Planned}
+use Rattle.picture.specs.Facts.{SlotIn}
+use Rattle.picture.specs.Regions.{regionCases}
 use Rattle.board.specs.State.{fileOf, stateValid, storeCases}
-use Rattle.board.specs.Calls.{bitmapCases}
+use Rattle.board.specs.Calls.{uploadCases, regionDrawn, bitmapCases, bitmapDrawn}
 use Rattle.board.specs.declared.State.{State}
-use Rattle.board.specs.declared.Sizes.{Sizes}
-use Rattle.board.specs.declared.Checked.{Checked}
+use Rattle.board.specs.declared.Store.{Store}
+use Rattle.board.specs.declared.checks.Checked.{Checked}
 
-abbrev pub stateOf : (file : List ℕ) (len slots : ℕ) → Phase → State
-stateOf file len slots phase = record { file = file; len = len; slots = slots; phase = phase }
+abbrev pub stateOf : (file : List ℕ) (len : ℕ) → Store → State
+stateOf file len store = record { settings = record { file = file; len = len }; store = store }
 
--- whether a state is valid, and where the stop section of its file begins
-pub record StateValid (state : State) (r : Layout) : Type 0 where
+-- whether a state is valid, and the plan of its file where it is
+pub record StatePlanned (state : State) (r : Planned) : Type 0 where
   pub good : r .ok ≡ stateValid state
-  pub stop : r .ok ≡ true → Accepted (fileOf state) (r .stop)
+  pub plan : r .ok ≡ true → PlanOf (fileOf state) (r .plan)
 
--- the refusals that every call on a store begins with; a store that earns none has an accepted file
-pub record StoreChecked (state : State) (memoryLength : ℕ) (r : Checked) : Type 0 where
-  pub number-is : r .number ≡ firstOf (storeCases state memoryLength) (λ n. n) 0
-  pub stop : r .number ≡ 0 → Accepted (fileOf state) (r .stop)
+-- the number given before, or else that of a call's own cases
+abbrev pub numberAfter : (before : ℕ) (own : List Case) → ℕ
+numberAfter before own = cond (eqb before 0) (firstOf own (λ n. n) 0) before
 
--- the sizes of the panel that a settings file names
-pub record SizesIn (file : List ℕ) (r : Sizes) : Type 0 where
-  pub bytes-is : r .bytes ≡ rowBytesIn file
-  pub rows-is : r .rows ≡ rowsIn file
-  pub stride-is : r .stride ≡ strideIn file
-  pub some : 0 < r .bytes
-  pub narrow : r .bytes ≤ 33
-  pub low : r .rows ≤ 176
-  pub within : r .bytes ≤ r .stride
-  pub small : r .stride ≤ 36
+-- the first of these refusals, and the plan of the file where there is none
+pub record Found (state : State) (cases : List Case) (r : Checked) : Type 0 where
+  pub number-is : r .number ≡ firstOf cases (λ n. n) 0
+  pub plan : r .number ≡ 0 → PlanOf (fileOf state) (r .plan)
 
--- a slot of a store on an accepted file
-pub record SlotIn (file : List ℕ) (memoryLength slot : ℕ) : Type 0 where
-  pub good : settingsGood file ≡ true
-  pub few : slot ≤ 7
-  pub fits : slot * (rowsIn file * rowBytesIn file) + rowsIn file * rowBytesIn file ≤ memoryLength
+-- a slot of a panel's sizes that lies in the memory
+pub record SlotOf (shape : Shape) (memoryLength slot : ℕ) : Type 0 where
+  pub sized : Sized shape
+  pub slot-in : SlotIn (shape .bytes) (shape .rows) memoryLength slot
 
 -- the number of a bitmap file or a region that is put into a slot, and the memory afterwards
-abbrev pub bitmapPlaced : (settings memory : List ℕ) (slot : ℕ) (file : List ℕ) → ℕ × List ℕ
-bitmapPlaced settings memory slot file =
-    firstOf (bitmapCases settings file)
-    (λ number. (number, memory)) (
-      0,
-      withPicture (rowBytesIn settings) (rowsIn settings) memory slot
-          (readPicture (rowBytesIn settings) (rowsIn settings) (strideIn settings) file),
-    )
+abbrev pub bitmapPlaced : (shape : Shape) (memory : List ℕ) (slot : ℕ) (file : List ℕ) → ℕ × List ℕ
+bitmapPlaced shape memory slot file =
+    firstOf (bitmapCases shape file) (λ number. (number, memory)) (0, bitmapDrawn shape memory slot file)
 
-abbrev pub regionPlaced : (settings memory : List ℕ) (slot x y width height : ℕ) (payload : List ℕ) → ℕ × List ℕ
-regionPlaced settings memory slot x y width height payload =
-    firstOf (regionCases (rowBytesIn settings) (rowsIn settings) x y width height payload)
+abbrev pub regionPlaced : (shape : Shape) (memory : List ℕ) (slot x y width height : ℕ) (payload : List ℕ) → ℕ × List ℕ
+regionPlaced shape memory slot x y width height payload =
+    firstOf (regionCases (shape .bytes) (shape .rows) x y width height payload)
     (λ number. (number, memory))
-    (0, withRegion (rowBytesIn settings) (rowsIn settings) memory slot x y width height payload)
+    (0, regionDrawn shape memory slot x y width height payload)

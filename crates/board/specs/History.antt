@@ -23,20 +23,38 @@ pub data Call : Type 0 where
   abandon : Call
   writeBitmap : (slot : ℕ) (out : List ℕ) → Call
 
+-- what a call is to a run: it starts one, polls it, abandons it, or has no part in it
+pub data Part : Type 0 where
+  starts : (slot : ℕ) → Part
+  polls : Part
+  abandons : Part
+  noPart : Part
+
+abbrev pub partOf : Call → Part
+partOf (uploadRegion slot x y width height payload) = noPart
+partOf (uploadBitmap slot file) = noPart
+partOf (start slot tick) = starts slot
+partOf (poll tick out) = polls
+partOf abandon = abandons
+partOf (writeBitmap slot out) = noPart
+
 -- what a call gave back: a number, or what a poll answered
 pub data Given : Type 0 where
   number : ℕ → Given
   answered : Answer → Given
 
--- a number 0 accepts the call
+-- the number of what a call gave back, and whether it accepts the call
+abbrev pub numberGiven : Given → ℕ
+numberGiven (number n) = n
+numberGiven (answered answer) = answerNumber answer
+
 abbrev pub isAccepted : Given → Bool
-isAccepted (number n) = eqb n 0
-isAccepted (answered answer) = eqb (answerNumber answer) 0
+isAccepted given = eqb (numberGiven given) 0
 
 abbrev pub isDoneAnswer : Answer → Bool
 isDoneAnswer (Refused n) = false
-isDoneAnswer (Write length) = false
-isDoneAnswer (Line length) = false
+isDoneAnswer (Write n) = false
+isDoneAnswer (Line n) = false
 isDoneAnswer (Wait ms) = false
 isDoneAnswer Done = true
 
@@ -48,32 +66,43 @@ isDone (answered answer) = isDoneAnswer answer
 pub data Event : Type 0 where
   event : (call : Call) (memory : List ℕ) (given : Given) (put : List ℕ) → Event
 
--- a call's event, and the state and the memory that it left
+-- the output that a call is lent; one that is lent none has no bytes
+abbrev pub outOf : Call → List ℕ
+outOf (uploadRegion slot x y width height payload) = []
+outOf (uploadBitmap slot file) = []
+outOf (start slot tick) = []
+outOf (poll tick out) = out
+outOf abandon = []
+outOf (writeBitmap slot out) = out
+
+-- a call's event, and the state, the memory and the output that it left
 pub record Called : Type 0 where
   pub seen : Event
   pub state : State
   pub memory : List ℕ
+  pub out : List ℕ
 
-abbrev pub ofReply : (call : Call) (before : List ℕ) → Reply → (after : List ℕ) → Called
-ofReply call before r after =
-    record { seen = event call before (number (r .number)) []; state = r .state; memory = after }
+abbrev pub ofReply : (call : Call) (before : List ℕ) → Reply → (after out : List ℕ) → Called
+ofReply call before r after out =
+    record { seen = event call before (number (r .number)) []; state = r .state; memory = after; out = out }
 
 abbrev pub ofPoll : (call : Call) (before : List ℕ) → Polling → Called
 ofPoll call before (polling answer state memory out) =
-    record { seen = event call before (answered answer) (putOut answer out); state = state; memory = memory }
+    record { seen = event call before (answered answer) (putOut answer out); state = state; memory = memory; out = out }
 
 -- one call on a state and a memory, by the definition that its contract cites
 abbrev pub callOn : (state : State) (memory : List ℕ) → Call → Called
 callOn state memory (uploadRegion slot x y width height payload) =
     ofReply (uploadRegion slot x y width height payload) memory
     (regionUpload state memory slot x y width height payload .0)
-    (regionUpload state memory slot x y width height payload .1)
+    (regionUpload state memory slot x y width height payload .1) []
 callOn state memory (uploadBitmap slot file) =
-    ofReply (uploadBitmap slot file) memory (bitmapUpload state memory slot file .0) (bitmapUpload state memory slot file .1)
-callOn state memory (start slot tick) = ofReply (start slot tick) memory (starting state (length memory) slot tick) memory
+    ofReply (uploadBitmap slot file) memory (bitmapUpload state memory slot file .0) (bitmapUpload state memory slot file .1) []
+callOn state memory (start slot tick) = ofReply (start slot tick) memory (starting state (length memory) slot tick) memory []
 callOn state memory (poll tick out) = ofPoll (poll tick out) memory (polled state tick memory out)
-callOn state memory abandon = ofReply abandon memory (abandoning state (length memory)) memory
-callOn state memory (writeBitmap slot out) = ofReply (writeBitmap slot out) memory (bitmapWrite state memory slot out .0) memory
+callOn state memory abandon = ofReply abandon memory (abandoning state (length memory)) memory []
+callOn state memory (writeBitmap slot out) =
+    ofReply (writeBitmap slot out) memory (bitmapWrite state memory slot out .0) memory (bitmapWrite state memory slot out .1)
 
 -- a list of calls, each given the state and the memory that the one before it left: what is seen of them, and the memory at the end
 abbrev pub eventsOf : (state : State) (memory : List ℕ) → List Call → List Event
@@ -86,6 +115,10 @@ memoryAfter state memory [] = memory
 memoryAfter state memory (call ∷ calls) = memoryAfter (callOn state memory call .state) (callOn state memory call .memory) calls
 
 -- ---- read from the events alone
+
+-- what a call gave back
+abbrev pub givenBy : Event → Given
+givenBy (event call memory given put) = given
 
 -- the bytes that polls put out, in order
 abbrev pub putBy : Event → List ℕ
@@ -113,17 +146,15 @@ afterDone b h memory seen atRest = seen
 afterDone b h memory seen (underWay slot) = record { standing = atRest; shown = slotPicture b h memory slot }
 afterDone b h memory seen abandoned = seen
 
-abbrev pub afterCall : (b h : ℕ) (memory : List ℕ) → Seen → Call → Given → Seen
-afterCall b h memory seen (uploadRegion slot x y width height payload) given = seen
-afterCall b h memory seen (uploadBitmap slot file) given = seen
-afterCall b h memory seen (start slot tick) given =
+abbrev pub afterCall : (b h : ℕ) (memory : List ℕ) → Seen → Part → Given → Seen
+afterCall b h memory seen (starts slot) given =
     cond (isAccepted given) (record { standing = underWay slot; shown = seen .shown }) seen
-afterCall b h memory seen (poll tick out) given = cond (isDone given) (afterDone b h memory seen (seen .standing)) seen
-afterCall b h memory seen abandon given = cond (isAccepted given) (record { standing = abandoned; shown = seen .shown }) seen
-afterCall b h memory seen (writeBitmap slot out) given = seen
+afterCall b h memory seen polls given = cond (isDone given) (afterDone b h memory seen (seen .standing)) seen
+afterCall b h memory seen abandons given = cond (isAccepted given) (record { standing = abandoned; shown = seen .shown }) seen
+afterCall b h memory seen noPart given = seen
 
 abbrev pub afterEvent : (b h : ℕ) → Seen → Event → Seen
-afterEvent b h seen (event call memory given put) = afterCall b h memory seen call given
+afterEvent b h seen (event call memory given put) = afterCall b h memory seen (partOf call) given
 
 abbrev pub seenAfter : (b h : ℕ) → Seen → List Event → Seen
 seenAfter b h seen [] = seen

@@ -3,5 +3,6 @@
 pub mod State
 pub mod Calls
 pub mod History
+pub mod Chains
 pub mod Balance
 pub mod Facts

@@ -4,22 +4,28 @@ use Prim.Native.Nat.{ℕ, _+_, _*_}
 use mathlib.Core.Bool.{Bool, true, not}
 use mathlib.Core.List.{List, [], _∷_}
 use lib.Dec.{eqb, leb}
-use lib.ListN.{length, take, replicate}
-use Rattle.lists.specs.Lists.{overlay}
+use lib.ListN.{length}
 use Rattle.lists.specs.Rules.{every, Case, case}
-use Rattle.settings.specs.Settings.{longestFile, settingsGood, rowBytesIn, rowsIn}
+use Rattle.panel.specs.declared.Shape.{Shape}
+use Rattle.settings.specs.Settings.{settingsGood, shapeIn}
+use Rattle.settings.specs.Kept.{fileIn, noSettings, keptSettings}
 use Rattle.run.specs.Conditions.{runValid}
-use Rattle.poll.specs.declared.Phase.{Phase}
-use Rattle.poll.specs.declared.Phase.the-variants.{Idle, Abandoned, Running}
+use Rattle.run.specs.declared.Phase.{Phase}
+use Rattle.run.specs.declared.Phase.the-variants.{Idle, Abandoned, Running}
 use Rattle.board.specs.declared.State.{State}
+use Rattle.board.specs.declared.Store.{Store}
 
 -- the settings file that a state keeps
 abbrev pub fileOf : State → List ℕ
-fileOf state = take (state .len) (state .file)
+fileOf state = fileIn (state .settings)
+
+-- the sizes of its panel
+abbrev pub sizesOf : State → Shape
+sizesOf state = shapeIn (fileOf state)
 
 -- the state with another phase
 abbrev pub withPhase : State → Phase → State
-withPhase state phase = record { file = state .file; len = state .len; slots = state .slots; phase = phase }
+withPhase state phase = record { settings = state .settings; store = record { slots = state .store .slots; phase = phase } }
 
 -- a run under way is valid
 abbrev pub phaseValid : (file : List ℕ) (slots : ℕ) → Phase → Bool
@@ -27,34 +33,35 @@ phaseValid file slots Idle = true
 phaseValid file slots Abandoned = true
 phaseValid file slots (Running run) = runValid file slots run
 
--- the file is whole and accepted, there are 1 to 7 slots beside slot 0, and the phase is valid
+-- there are 1 to 7 slots beside slot 0, and the phase is valid
+abbrev pub storeRules : (file : List ℕ) → Store → List Bool
+storeRules file store = leb 1 (store .slots) ∷ leb (store .slots) 7 ∷ phaseValid file (store .slots) (store .phase) ∷ []
+
+-- the file is whole and accepted, and so is the store on it
 abbrev pub stateRules : State → List Bool
 stateRules state =
-    leb (state .len) (length (state .file))
+    leb (state .settings .len) (length (state .settings .file))
     ∷ settingsGood (fileOf state)
-    ∷ leb 1 (state .slots)
-    ∷ leb (state .slots) 7
-    ∷ phaseValid (fileOf state) (state .slots) (state .phase)
-    ∷ []
+    ∷ storeRules (fileOf state) (state .store)
 
 unfoldable pub stateValid : State → Bool
 stateValid state = every (stateRules state)
 
 -- lent memory holds slots 0 to n, P bytes each, exactly
-abbrev pub storeBytes : (file : List ℕ) (n : ℕ) → ℕ
-storeBytes file n = (n + 1) * (rowsIn file * rowBytesIn file)
+abbrev pub storeBytes : Shape → (n : ℕ) → ℕ
+storeBytes shape n = (n + 1) * (shape .rows * shape .bytes)
 
 -- the refusals that every call on the store begins with: 13, then 1
 abbrev pub storeCases : (state : State) (memoryLength : ℕ) → List Case
 storeCases state memoryLength =
     case (not (stateValid state)) 13
-    ∷ case (not (eqb memoryLength (storeBytes (fileOf state) (state .slots)))) 1
+    ∷ case (not (eqb memoryLength (storeBytes (sizesOf state) (state .store .slots)))) 1
     ∷ []
 
 -- the one fixed empty state of a refused opening
 abbrev pub emptyState : State
-emptyState = record { file = replicate longestFile 0; len = 0; slots = 0; phase = Idle }
+emptyState = record { settings = noSettings; store = record { slots = 0; phase = Idle } }
 
 -- the state that an accepted opening leaves
 abbrev pub openedState : (file : List ℕ) (n : ℕ) → State
-openedState file n = record { file = overlay file (replicate longestFile 0); len = length file; slots = n; phase = Idle }
+openedState file n = record { settings = keptSettings file; store = record { slots = n; phase = Idle } }

@@ -11,8 +11,8 @@ use Rattle.panel.specs.Registers.{dataLength}
 use Rattle.panel.proofs.Registers.{data-length-le}
 use Rattle.settings.specs.Settings.{Step, write, wait, malformed, stepOf, sizeOf, stepsOf, restOf}
 use Rattle.settings.specs.Facts.{kindOf}
-use Rattle.settings.specs.declared.Kind.the-variants.{Write, Malformed}
-use Rattle.settings.proofs.Steps.{step-cases, step-write}
+use Rattle.settings.specs.declared.Kind.the-variants.{Malformed}
+use Rattle.settings.proofs.Steps.{step-cases}
 use Rattle.listing.specs.Text.{ascii, newline, hexByte, spacedBytes, decimal}
 use Rattle.listing.specs.Listing.{stepLine, stepLines}
 use Rattle.listing.specs.Appended.{Appended}
@@ -21,11 +21,9 @@ use Rattle.listing.proofs.Text.{length-spaced, decimal-short}
 
 -- ---- the line of one step
 
--- the line of a write shows the data that stand at index `from` + 2 of the file
-module _ (panel : ℕ) (file : List ℕ) (from register : ℕ) (e : kindOf (stepOf panel (drop from file)) ≡ Write register) where
-  pub write-line : (n : ℕ) → n ≡ dataLength register
-      → stepLine (write register (take n (drop (from + 2) file))) ≡ stepLine (stepOf panel (drop from file))
-  write-line n d = rw (step-write panel register (drop from file) e, d, drop-drop 2 from file)
+-- the data of a write are at most eight bytes
+data-le : (register n : ℕ) (s : List ℕ) → n ≡ dataLength register → length (take n s) ≤ 8
+data-le register n s e = omega (arith, length-take n s, data-length-le register)
 
 pub malformed-line : (step : Step) → kindOf step ≡ Malformed → [] ≡ stepLine step
 malformed-line (write r d) e = absurd (let z : _≡_ {A = ℕ} 0 1 = cc in omega arith)
@@ -47,7 +45,7 @@ wait-short ms =
 pub line-short : (panel : ℕ) (s : List ℕ) → length (stepLine (stepOf panel s)) ≤ 33
 line-short panel s =
     step-cases panel s (λ step. length (stepLine step) ≤ 33)
-    (λ r n e some h. write-short r (take n (drop 2 s)) (omega (arith, length-take n (drop 2 s), data-length-le r)))
+    (λ r n e some h. write-short r (take n (drop 2 s)) (data-le r n (drop 2 s) e))
     (λ ms h low high. wait-short ms)
     (omega arith)
 

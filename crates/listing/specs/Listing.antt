@@ -41,6 +41,6 @@ fileLines file =
 unfoldable pub listing : (file : List ℕ) → List ℕ
 listing file = cond (settingsGood file) (fileLines file) (ascii "refused 2" ++ newline)
 
--- the listing at the front of an array, with zeros behind it
+-- the listing at the front of an array, with zeros after it
 abbrev pub listed : (file : List ℕ) → Listing
 listed file = record { text = overlay (listing file) (replicate 2145 0); len = length (listing file) }

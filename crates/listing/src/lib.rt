@@ -1,9 +1,11 @@
 // A settings file as text.
 use settings::Kind;
+use settings::Plan;
+use settings::Section;
 ghost use mathlib.Core.Path.{_≡_};
 ghost use Prim.Native.Nat.{_+_, _*_, _%_, _<_, _≤_};
 ghost use mathlib.Core.List.{_++_};
-ghost use lib.ListN.{length, getD, drop};
+ghost use lib.ListN.{length, drop};
 ghost use Rattle.settings.specs.Settings.{write, stepOf, stepsOf};
 ghost use Rattle.listing.specs.Text.{ascii, digit, hexByte, decimal, spacedBytes, newline};
 ghost use Rattle.listing.specs.Listing.{
@@ -16,9 +18,9 @@ ghost use Rattle.listing.specs.Listing.{
   listed,
 };
 ghost use Rattle.listing.specs.Appended.{Appended};
-ghost use Rattle.settings.specs.Facts.{Accepted};
+ghost use Rattle.settings.specs.Plans.{SectionIn, PlanOf};
 
-// Puts text into `out` from index `at` on, and answers the index behind it. All functions here do so, each with its own text.
+// Puts text into `out` from index `at` on, and answers the index after it. All functions here do so, each with its own text.
 fn put_text(out: &mut [u8], at: usize, text: &[u8]) -> usize
     requires { ⌜ at + length (now text) ≤ length (now out) ⌝ }
     ensures { λ r. ⌜ Appended (now (text .entry)) at (now (out .entry)) r (now (out .exit)) ⌝ }
@@ -118,9 +120,8 @@ fn put_step(out: &mut [u8], at: usize, file: &[u8], panel: usize, from: usize) -
     let kind = settings::step_at(file, from, panel);
     match kind {
         Kind::Write(register) => {
-            let start = from + 2;
-            let end = start + panel::data_length(register);
-            put_write_line(out, at, register, &file[start..end])
+            let bytes = settings::data_of(file, panel, from, register);
+            put_write_line(out, at, register, bytes)
         }
         Kind::Wait(ms) => put_number_line(out, at, b"wait ", ms),
         Kind::Malformed => at,
@@ -157,36 +158,34 @@ fn put_panel_line(out: &mut [u8], at: usize, panel: usize) -> usize
     put_text(out, at, b"panel 2.7\n")
 }
 
-// The lines of a section: a word and the count at index `count` of the file, then the steps behind it.
+// The lines of a section: a word and the count of its steps, then the steps.
 fn put_section(
     out: &mut [u8],
     at: usize,
     word: &[u8],
     file: &[u8],
     panel: usize,
-    count: usize,
+    section: Section,
 ) -> usize
-    requires { ⌜ (panel < 3) × (count < length (now file)) × (getD (now file) count 0 ≤ 32) × (length (now word) ≤ 6)
-        × (at + 1067 ≤ length (now out)) ⌝ }
+    requires { ⌜ SectionIn panel (now file) section × (length (now word) ≤ 6) × (at + 1067 ≤ length (now out)) ⌝ }
     ensures { λ r. ⌜ Appended
-        (sectionLines (now (word .entry)) (getD (now (file .entry)) count 0)
-        (stepsOf panel (getD (now (file .entry)) count 0) (drop (count + 1) (now (file .entry)))))
+        (sectionLines (now (word .entry)) (section .count)
+        (stepsOf panel (section .count) (drop (section .at) (now (file .entry)))))
         at (now (out .entry)) r (now (out .exit)) ⌝ }
 {
-    let n = file[count];
+    let n = section.count;
     let end = put_number_line(out, at, word, n as u16);
-    put_steps(out, end, file, panel, count + 1, n as usize)
+    put_steps(out, end, file, panel, section.at, n)
 }
 
-// The lines of an accepted file whose stop section begins at index `stop`.
-fn put_file(out: &mut [u8], file: &[u8], stop: usize) -> usize
-    requires { ⌜ (2145 ≤ length (now out)) × Accepted (now file) stop ⌝ }
+// The lines of an accepted file, of which `plan` is the plan.
+fn put_file(out: &mut [u8], file: &[u8], plan: Plan) -> usize
+    requires { ⌜ (2145 ≤ length (now out)) × PlanOf (now file) plan ⌝ }
     ensures { λ r. ⌜ Appended (fileLines (now (file .entry))) 0 (now (out .entry)) r (now (out .exit)) ⌝ }
 {
-    let panel = settings::panel_of(file);
-    let head = put_panel_line(out, 0, panel);
-    let start = put_section(out, head, b"start ", file, panel, 2);
-    put_section(out, start, b"stop ", file, panel, stop)
+    let head = put_panel_line(out, 0, plan.panel);
+    let start = put_section(out, head, b"start ", file, plan.panel, plan.start);
+    put_section(out, start, b"stop ", file, plan.panel, plan.stop)
 }
 
 // A listing: the first `len` bytes of `text`.
@@ -199,12 +198,11 @@ fn put_listing(out: &mut [u8], file: &[u8]) -> usize
     requires { ⌜ 2145 ≤ length (now out) ⌝ }
     ensures { λ r. ⌜ Appended (listing (now (file .entry))) 0 (now (out .entry)) r (now (out .exit)) ⌝ }
 {
-    let layout = settings::laid_out(file);
-    let stop = layout.stop;
-    if !layout.ok {
+    let planned = settings::plan_of(file);
+    if !planned.ok {
         return put_text(out, 0, b"refused 2\n");
     }
-    put_file(out, file, stop)
+    put_file(out, file, planned.plan)
 }
 
 // The listing of any file.

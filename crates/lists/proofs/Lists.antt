@@ -78,7 +78,7 @@ module _ (at : ℕ) (out : List ℕ) where
   length-front : (bytes : List ℕ) → at ≤ length out → length (take at out ++ bytes) ≡ at + length bytes
   length-front bytes h = rw (length-append, length-take-le at out h)
 
-  -- what stands up to the end of the bytes that were laid over, and what stands behind them
+  -- what stands up to the end of the bytes that were laid over, and what stands after them
   pub take-overlayAt : (bytes : List ℕ) (end : ℕ) → end ≡ at + length bytes → at ≤ length out
       → take end (overlayAt at bytes out) ≡ take at out ++ bytes
   take-overlayAt bytes end e h =
@@ -89,7 +89,7 @@ module _ (at : ℕ) (out : List ℕ) where
   drop-overlayAt bytes end e h =
       rw (overlayAt-front bytes, drop-at (take at out ++ bytes) (drop (at + length bytes) out) end (length-front bytes h ∙ sym e), e)
 
-  -- one byte more, right behind those that are there already
+  -- one byte more, right after those that are there already
   pub overlayAt-more : (bytes d : List ℕ) (i v : ℕ) → d ≡ overlayAt at bytes out → i ≡ at + length bytes → i < length out
       → set d i v ≡ overlayAt at (bytes ++ (v ∷ [])) out
   overlayAt-more bytes d i v e p h =
@@ -102,7 +102,7 @@ module _ (at : ℕ) (out : List ℕ) where
       ∙ sym (append-snoc front v rest)
       ∙ ap (λ (r : List ℕ). r ++ rest) (append-assoc (take at out) bytes (v ∷ [])))
 
-  -- more bytes, right behind those that are there already
+  -- more bytes, right after those that are there already
   pub overlayAt-next : (bytes next : List ℕ) (end : ℕ) → end ≡ at + length bytes → end ≤ length out
       → overlayAt end next (overlayAt at bytes out) ≡ overlayAt at (bytes ++ next) out
   overlayAt-next bytes next end e h =

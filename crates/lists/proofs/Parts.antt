@@ -31,7 +31,7 @@ module _ (at : ℕ) (out bytes : List ℕ) (fits : at + length bytes ≤ length 
   part-own n e =
       rw (drop-at (take at out) (overlay bytes (drop at out)) at (length-take-le at out (omega arith)), ← e) (take-overlay bytes (drop at out))
 
-  -- a part before it, and a part behind it, is as it was
+  -- a part before it, and a part after it, is as it was
   pub part-before : (i n : ℕ) → i + n ≤ at → take n (drop i (overlayAt at bytes out)) ≡ take n (drop i out)
   part-before i n h =
       let q : at ≤ length out = omega arith in
@@ -39,8 +39,8 @@ module _ (at : ℕ) (out bytes : List ℕ) (fits : at + length bytes ≤ length 
       ∙ sym (part-front i n at out (drop at out) h q)
       ∙ ap (λ (l : List ℕ). take n (drop i l)) (take-append-drop at out)
 
-  pub part-behind : (i n : ℕ) → at + length bytes ≤ i → take n (drop i (overlayAt at bytes out)) ≡ take n (drop i out)
-  part-behind i n h =
+  pub part-after : (i n : ℕ) → at + length bytes ≤ i → take n (drop i (overlayAt at bytes out)) ≡ take n (drop i out)
+  part-after i n h =
       let end : ℕ = at + length bytes in
       let e : i ≡ end + (i - end) = omega arith in
       let q : drop i (overlayAt at bytes out) ≡ drop i out =
@@ -54,7 +54,7 @@ overlayAt-own at n out h =
 
 -- ---- part by part
 
--- one part more, right behind those that are there already
+-- one part more, right after those that are there already
 pub part-next : (at : ℕ) (out front next : List ℕ) (end : ℕ) {d e : List ℕ} → d ≡ overlayAt at front out → e ≡ overlayAt end next d
     → end ≡ at + length front → end ≤ length out → e ≡ overlayAt at (front ++ next) out
 part-next at out front next end p q l h = q ∙ ap (overlayAt end next) p ∙ overlayAt-next at out front next end l h
@@ -66,7 +66,7 @@ overlay-part at k bytes out e =
     let m : k ≡ length (drop at out) = e ∙ sym (length-drop at out) in
     rw (m, take-length, drop-length, append-nil)
 
--- two lists laid one behind the other, and three
+-- two lists laid one after the other, and three
 pub overlay-two : (out o₁ o₂ xs ys : List ℕ) (i : ℕ) → i ≡ length xs → i ≤ length out
     → o₁ ≡ overlayAt 0 xs out → o₂ ≡ overlayAt i ys o₁ → o₂ ≡ overlay (xs ++ ys) out
 overlay-two out o₁ o₂ xs ys i p h e₁ e₂ = e₂ ∙ rw e₁ (overlayAt-next 0 out xs ys i (omega arith) h)

@@ -1,7 +1,7 @@
 -- Laws of `every`, `allBelow` and `firstOf`.
 -- Assumes nothing.
 use mathlib.Core.Path.{_≡_, refl, sym, ap, _∙_}
-use mathlib.Core.Bool.{Bool, true, false, not, _&&_, _||_, and-false, and-true, and-assoc, false≢true}
+use mathlib.Core.Bool.{Bool, true, false, cond, not, _&&_, _||_, and-false, and-true, and-assoc, false≢true}
 use mathlib.Core.List.{List, [], _∷_, _++_}
 use mathlib.Core.Logic.{_⊎_, inl, inr}
 use Prim.Native.Nat.{ℕ, zero, suc, _<_}
@@ -33,6 +33,11 @@ refused {answer} e f = sym e ∙ not-true answer f
 
 pub passed : {answer test : Bool} → answer ≡ test → not answer ≡ false → test ≡ true
 passed {answer} e f = sym e ∙ not-false answer f
+
+-- what holds of both, where a test picks them, holds of what it picks
+pub by-test : {A : Type 0} (P : A → Type 0) (test : Bool) (a b : A) → (test ≡ true → P a) → (test ≡ false → P b) → P (cond test a b)
+by-test P true a b ifTrue ifFalse = ifTrue refl
+by-test P false a b ifTrue ifFalse = ifFalse refl
 
 -- ---- every
 
@@ -162,6 +167,15 @@ module _ {A : Type 0} (cs ds : List Case) (refused : ℕ → A) (accepted : A) w
 
   pub none-append : None cs → firstOf ds refused accepted ≡ firstOf (cs ++ ds) refused accepted
   none-append free = sym (first-append cs ds refused accepted ∙ taken cs refused (firstOf ds refused accepted) free)
+
+-- no case of two lists applies: none of the first, and none of the second
+pub none-parts : (cs ds : List Case) → None (cs ++ ds) → None cs × None ds
+none-parts [] ds free = (none, free)
+none-parts (case t n ∷ cs) ds (past e rest) = let both = none-parts cs ds rest in (past e (both .0), both .1)
+
+pub none-both : {cs ds : List Case} → None cs → None ds → None (cs ++ ds)
+none-both none free = free
+none-both (past e rest) free = past e (none-both rest free)
 
 -- one more thing done to every answer
 pub first-map : {A B : Type 0} (g : A → B) (cs : List Case) (refused : ℕ → A) (accepted : A)

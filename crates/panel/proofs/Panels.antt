@@ -5,7 +5,8 @@ use mathlib.Core.List.{[], _∷_, map}
 use Prim.Native.Nat.{ℕ, _%_, _≤_, _<_}
 use native.Mathlib.Omega.{arith}
 use Rattle.lists.proofs.Cases.{none, more, each, entry-lt}
-use Rattle.panel.specs.Panels.{rowsOf, rowBytesOf, pictureBytesOf, framesOf, strideOf}
+use Rattle.panel.specs.Panels.{rowsOf, rowBytesOf, pictureBytesOf, framesOf, strideOf, shapeOf}
+use Rattle.panel.specs.Facts.{Sized}
 
 pub each-panel : (P : ℕ → Type 0) → P 0 → P 1 → P 2 → (panel : ℕ) → panel < 3 → P panel
 each-panel P a b c = each P 3 (more (more (more none a) b) c)
@@ -27,23 +28,26 @@ stride-le panel = omega (arith, entry-lt 37 (16 ∷ 28 ∷ 36 ∷ []) refl panel
 pub picture-bytes : map pictureBytesOf (0 ∷ 1 ∷ 2 ∷ []) ≡ 1536 ∷ 2400 ∷ 5808 ∷ []
 picture-bytes = refl
 
--- what the definitions over any row bytes b, rows h and stride s ask of a panel's
-pub record Size (b h s : ℕ) : Type 0 where
-  pub some : 0 < b
-  pub narrow : b ≤ 33
-  pub high : 0 < h
-  pub low : h ≤ 176
-  pub fours : h % 4 ≡ 0
-  pub within : b ≤ s
-  pub stride : s ≤ 36
+-- ---- what holds of every panel's sizes
 
-size : (b h s : ℕ) → 0 < b → b ≤ 33 → 0 < h → h ≤ 176 → h % 4 ≡ 0 → b ≤ s → s ≤ 36 → Size b h s
-size b h s q₁ q₂ q₃ q₄ q₅ q₆ q₇ =
-    record { some = q₁; narrow = q₂; high = q₃; low = q₄; fours = q₅; within = q₆; stride = q₇ }
+sized : (b h s n : ℕ) → 0 < b → b ≤ 33 → 0 < h → h ≤ 176 → h % 4 ≡ 0 → b ≤ s → s ≤ 36 → 0 < n → n ≤ 21
+    → Sized (record { bytes = b; rows = h; stride = s; frames = n })
+sized b h s n q₁ q₂ q₃ q₄ q₅ q₆ q₇ q₈ q₉ =
+    record {
+      some = q₁;
+      narrow = q₂;
+      high = q₃;
+      low = q₄;
+      fours = q₅;
+      within = q₆;
+      small = q₇;
+      frames-some = q₈;
+      frames-few = q₉;
+    }
 
-pub size-of : (panel : ℕ) → panel < 3 → Size (rowBytesOf panel) (rowsOf panel) (strideOf panel)
+pub size-of : (panel : ℕ) → panel < 3 → Sized (shapeOf panel)
 size-of =
-    each-panel (λ p. Size (rowBytesOf p) (rowsOf p) (strideOf p))
-    (size 16 96 16 (omega arith) (omega arith) (omega arith) (omega arith) refl (omega arith) (omega arith))
-    (size 25 96 28 (omega arith) (omega arith) (omega arith) (omega arith) refl (omega arith) (omega arith))
-    (size 33 176 36 (omega arith) (omega arith) (omega arith) (omega arith) refl (omega arith) (omega arith))
+    each-panel (λ p. Sized (shapeOf p))
+    (sized 16 96 16 16 (omega arith) (omega arith) (omega arith) (omega arith) refl (omega arith) (omega arith) (omega arith) (omega arith))
+    (sized 25 96 28 16 (omega arith) (omega arith) (omega arith) (omega arith) refl (omega arith) (omega arith) (omega arith) (omega arith))
+    (sized 33 176 36 21 (omega arith) (omega arith) (omega arith) (omega arith) refl (omega arith) (omega arith) (omega arith) (omega arith))

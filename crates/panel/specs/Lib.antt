@@ -3,3 +3,4 @@ pub mod Panels
 pub mod Registers
 pub mod Codes
 pub mod Dots
+pub mod Facts

@@ -6,6 +6,7 @@ use mathlib.Core.Bool.{Bool}
 use mathlib.Core.List.{[], _∷_}
 use lib.Dec.{ltb}
 use lib.ListN.{getD}
+use Rattle.panel.specs.declared.Shape.{Shape}
 
 -- a code that names a panel
 abbrev pub isPanel : ℕ → Bool
@@ -34,3 +35,8 @@ framesOf panel = getD (16 ∷ 16 ∷ 21 ∷ []) panel 0
 -- the bytes from one row of a bitmap file to the next
 abbrev pub strideOf : ℕ → ℕ
 strideOf panel = getD (16 ∷ 28 ∷ 36 ∷ []) panel 0
+
+-- all of them as one value
+abbrev pub shapeOf : ℕ → Shape
+shapeOf panel =
+    record { bytes = rowBytesOf panel; rows = rowsOf panel; stride = strideOf panel; frames = framesOf panel }

@@ -7,6 +7,7 @@ ghost use Rattle.panel.specs.Panels.{
   rowBytesOf,
   framesOf,
   strideOf,
+  shapeOf,
 };
 ghost use Rattle.panel.specs.Registers.{dataLength, channelData, gateSourceLevel};
 ghost use Rattle.panel.specs.Codes.{whereWhite, whereBlack, scanMark};
@@ -43,6 +44,14 @@ pub fn is_panel(code: u32) -> bool
     code < 3
 }
 
+// The sizes of a panel: the bytes of a row, the rows, the bytes from one row of a bitmap file to the next, and the frames per stage.
+pub struct Shape {
+    pub bytes: usize,
+    pub rows: usize,
+    pub stride: usize,
+    pub frames: u32,
+}
+
 pub fn rows(panel: usize) -> usize
     requires { ⌜ panel < 3 ⌝ }
     ensures { λ r. ⌜ (r ≡ rowsOf panel) × (r ≤ 176) ⌝ }
@@ -71,17 +80,36 @@ pub fn stride(panel: usize) -> usize
     STRIDES[panel]
 }
 
+pub fn shape_of(panel: usize) -> Shape
+    requires { ⌜ panel < 3 ⌝ }
+    ensures { λ r. ⌜ r ≡ shapeOf panel ⌝ }
+{
+    Shape {
+        bytes: row_bytes(panel),
+        rows: rows(panel),
+        stride: stride(panel),
+        frames: frames(panel),
+    }
+}
+
 // How many bytes of data a register takes; 0 where there is no such register. This is asked for every step at every call, and an
-// array that is indexed would be laid out anew each time.
+// array that is indexed would be laid out anew each time; most steps write registers 0x02 to 0x08.
 pub fn data_length(register: u8) -> usize
     ensures { λ r. ⌜ (r ≡ dataLength register) × (r ≤ 8) ⌝ }
 {
-    match register {
-        0x01 => 8,
-        0x02..=0x08 => 1,
-        0x09 => 2,
-        _ => 0,
+    if 0x02 <= register {
+        if register <= 0x08 {
+            return 1;
+        }
+        if register == 0x09 {
+            return 2;
+        }
+        return 0;
     }
+    if register == 0x01 {
+        return 8;
+    }
+    0
 }
 
 pub fn channel_data(panel: usize) -> [u8; 8]

@@ -1,10 +1,10 @@
 -- Laws of region uploads: what the tests say, and what the painted bytes of a slot leave of the memory.
 -- Assumes nothing.
-use mathlib.Core.Path.{_≡_, refl, sym, _∙_}
+use mathlib.Core.Path.{_≡_, refl, sym, ap, _∙_}
 use mathlib.Core.Bool.{Bool, true, false, cond, not, _&&_, and-true}
 use mathlib.Core.List.{List, [], _∷_, _++_}
 use Prim.Native.Nat.{ℕ, _+_, _-_, _*_, _%_, _^_, _≤_, _<_}
-use native.Mathlib.Nat.{mul-le-mul, add-sub-cancel-left}
+use native.Mathlib.Nat.{mul-le-mul}
 use native.Mathlib.Numerals.{add-one}
 use native.Mathlib.Decide.{ℕ-discrete}
 use native.Mathlib.Omega.{arith}
@@ -17,9 +17,9 @@ use Rattle.lists.proofs.Cases.{none, more, each}
 use Rattle.panel.specs.Dots.{dot}
 use Rattle.panel.proofs.Dots.{dot-lt}
 use Rattle.picture.specs.Pictures.{over, overdrawn}
-use Rattle.picture.specs.Slots.{slotBytes, withBytes, slotPicture, withPicture, painted}
+use Rattle.picture.specs.Slots.{rawOf, slotPicture, painted}
 use Rattle.picture.specs.Regions.{regionGood, payloadRow, rowClear, payloadGood, regionCases, withRegion}
-use Rattle.picture.proofs.Slots.{Rows, rows-painted, rows-overdrawn, dot-overdrawn, picture-same, picture-other}
+use Rattle.picture.proofs.Slots.{Rows, rows-overdrawn, dot-overdrawn, picture-same, picture-other, lent-picture, lent-back}
 
 -- the bytes of a slot, with the panels' bounds
 pub slot-small : (b h : ℕ) → b ≤ 33 → h ≤ 176 → h * b ≤ 5808
@@ -125,11 +125,12 @@ pub region-painted : (b h : ℕ) → 0 < b → (m : List ℕ) (slot x y w k : �
     → p ≡ painted b h (take (slot * (h * b) + h * b - slot * (h * b)) (drop (slot * (h * b)) m)) x y w k (dot (payloadRow w) l)
     → take (slot * (h * b)) m ++ (p ++ drop (slot * (h * b) + h * b - slot * (h * b)) (drop (slot * (h * b)) m))
     ≡ withRegion b h m slot x y w k l
-unfolding withRegion withPicture slotPicture withBytes slotBytes painted
+unfolding withRegion painted
 region-painted b h pos m slot x y w k l p e =
-    let raw : List ℕ = take (h * b) (drop (slot * (h * b)) m) in
-    let q : length (painted b h raw x y w k (dot (payloadRow w) l)) ≡ h * b = rows-painted b h pos raw x y w k (dot (payloadRow w) l) (dot-lt (payloadRow w) l) .0 in
-    rw (e, add-sub-cancel-left (slot * (h * b)) (h * b), q)
+    let new : ℕ → ℕ → ℕ = dot (payloadRow w) l in
+    let old : List ℕ = slotPicture b h m slot in
+    lent-back b h m slot (overdrawn b h old x y w k new) p (rows-overdrawn b h pos old x y w k new (dot-lt (payloadRow w) l) .0)
+    (e ∙ ap (λ (z : List ℕ). rawOf b h (overdrawn b h z x y w k new)) (lent-picture b h m slot))
 
 -- ---- every dot of the memory
 
@@ -150,5 +151,5 @@ module _ (b h : ℕ) (pos : 0 < b) (m : List ℕ) (slot : ℕ) (fits : slot * (h
         | yes e ↦
             rw (e, eq-eqb slot slot refl, picture-same b h m slot fits pos p r)
             (dot-overdrawn b h pos old x y w k new (dot-lt (payloadRow w) l) u v hu hv)
-        | no n ↦ rw (ne-eqb t slot n, picture-other b h m slot fits pos p r t n)
+        | no n ↦ rw (ne-eqb t slot n, picture-other b h m slot fits p (r .0) t n)
       ]

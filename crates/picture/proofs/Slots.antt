@@ -1,21 +1,23 @@
 -- Laws of the slots of the lent memory. Only the first section sees how a slot keeps its rows.
 -- Assumes nothing.
 use mathlib.Core.Path.{_≡_, refl, sym, ap, _∙_}
-use mathlib.Core.List.{List}
+use mathlib.Core.List.{List, _++_}
 use Prim.Native.Nat.{ℕ, _+_, _-_, _*_, _/_, _%_, _^_, _≤_, _<_}
 use native.Mathlib.Nat.{add-sub-cancel-left}
 use native.Mathlib.Omega.{arith}
 use native.Mathlib.Decide.{decLt}
 use lib.Bits.{bitAnd, bitOr}
-use lib.ListN.{length, getD, set, take, drop}
+use lib.ListN.{length, getD, set, take, drop, replicate, length-drop, take-append-drop}
+use lib.Seq.{drop-drop, take-append-le, drop-append-le}
 use Rattle.lists.specs.Lists.{overlayAt}
 use Rattle.lists.proofs.Lists.{length-overlayAt}
 use Rattle.panel.specs.Dots.{dot}
 use Rattle.panel.proofs.Dots.{dot-lt}
 use Rattle.picture.specs.Pictures.{draw, over, overdrawn}
 use Rattle.picture.specs.Slots.{pictureOf, rawOf, slotBytes, withBytes, slotPicture, withPicture, pictureRow, painted}
-use Rattle.lists.proofs.Parts.{more-rows, part-own, part-before, part-behind, overlayAt-own}
-use Rattle.picture.proofs.Pictures.{Bytes, Dots, Inside, or-white, and-black, length-draw, bytes-draw, dot-draw, draw-cong, draw-dot, set-bit, over-out, over-cong, over-lt, over-dot, over-row}
+use Rattle.picture.specs.Facts.{SlotIn}
+use Rattle.lists.proofs.Parts.{more-rows, part-length, part-own, part-before, part-after, overlayAt-own}
+use Rattle.picture.proofs.Pictures.{Bytes, Dots, bytes-take, bytes-drop, Inside, or-white, and-black, length-draw, bytes-draw, dot-draw, draw-cong, draw-dot, set-bit, over-out, over-cong, over-lt, over-dot, over-row}
 
 -- h rows of b bytes
 abbrev pub Rows : (b h : ℕ) (l : List ℕ) → Type 0
@@ -35,6 +37,29 @@ pub row-put : (b h : ℕ) (l : List ℕ) (y : ℕ) (rows : List ℕ) (at : ℕ) 
     → l′ ≡ rawOf b h (overlayAt (y * b) (take b (drop at rows)) (pictureOf b h l))
 unfolding pictureOf rawOf
 row-put b h l y rows at l′ e = rw (add-sub-cancel-left at b) at e
+
+-- row y of a slot, by the bytes of the memory that hold it
+pub row-of-slot : (b h : ℕ) (m : List ℕ) (slot y : ℕ) → slot * (h * b) + h * b ≤ length m → y < h
+    → take b (drop (slot * (h * b) + y * b) m) ≡ pictureRow b (slotPicture b h m slot) y
+unfolding slotPicture pictureOf slotBytes
+row-of-slot b h m slot y fits low =
+    let rest : List ℕ = drop (slot * (h * b)) m in
+    let long : length (take (h * b) rest) ≡ h * b = part-length (slot * (h * b)) (h * b) m fits in
+    let more : y * b + b ≤ h * b = more-rows y h b low in
+    ap (take b) (sym (drop-drop (y * b) (slot * (h * b)) m))
+    ∙ ap (λ (l : List ℕ). take b (drop (y * b) l)) (sym (take-append-drop (h * b) rest))
+    ∙ ap (take b) (drop-append-le (y * b) (take (h * b) rest) (drop (h * b) rest) (omega arith))
+    ∙ take-append-le b (drop (y * b) (take (h * b) rest)) (drop (h * b) rest) (rw length-drop (omega arith))
+
+-- the bytes that hold a picture are as many as its own, whatever these are
+pub length-raw : (b h : ℕ) (picture : List ℕ) → length picture ≡ h * b → length (rawOf b h picture) ≡ h * b
+unfolding rawOf
+length-raw b h picture e = e
+
+-- bytes FF hold a picture of bytes FF
+pub blank-picture : (b h : ℕ) → pictureOf b h (replicate (h * b) 0xFF) ≡ replicate (h * b) 0xFF
+unfolding pictureOf
+blank-picture b h = refl
 
 module _ (b h : ℕ) (pos : 0 < b) where
   pub picture-raw : (l : List ℕ) → Rows b h l → pictureOf b h (rawOf b h l) ≡ l
@@ -160,7 +185,7 @@ module _ (b h : ℕ) (m : List ℕ) (slot : ℕ) (fits : slot * (h * b) + h * b 
     bytes-other t n =
         elim (decLt t slot) [
           | yes l ↦ part-before (slot * (h * b)) m raw (omega arith) (t * (h * b)) (h * b) (more-rows t slot (h * b) l)
-          | no l ↦ part-behind (slot * (h * b)) m raw (omega arith) (t * (h * b)) (h * b) (omega (arith, more-rows slot t (h * b) (omega arith)))
+          | no l ↦ part-after (slot * (h * b)) m raw (omega arith) (t * (h * b)) (h * b) (omega (arith, more-rows slot t (h * b) (omega arith)))
         ]
 
   -- the bytes that a slot holds, put into it
@@ -169,6 +194,11 @@ module _ (b h : ℕ) (m : List ℕ) (slot : ℕ) (fits : slot * (h * b) + h * b 
   with-own = overlayAt-own (slot * (h * b)) (h * b) m fits
 
   -- the same of pictures
+  pub picture-other : (p : List ℕ) → length p ≡ h * b → (t : ℕ) → (t ≡ slot → ⊥)
+      → slotPicture b h (withPicture b h m slot p) t ≡ slotPicture b h m t
+  unfolding slotPicture withPicture
+  picture-other p e t n = ap (pictureOf b h) (bytes-other (rawOf b h p) (length-raw b h p e) t n)
+
   module _ (pos : 0 < b) (p : List ℕ) (r : Rows b h p) where
     pub length-with-picture : length (withPicture b h m slot p) ≡ length m
     unfolding withPicture
@@ -178,6 +208,62 @@ module _ (b h : ℕ) (m : List ℕ) (slot : ℕ) (fits : slot * (h * b) + h * b 
     unfolding slotPicture withPicture
     picture-same = ap (pictureOf b h) (bytes-same (rawOf b h p) (rows-raw b h pos p r .0)) ∙ picture-raw b h pos p r
 
-    pub picture-other : (t : ℕ) → (t ≡ slot → ⊥) → slotPicture b h (withPicture b h m slot p) t ≡ slotPicture b h m t
-    unfolding slotPicture withPicture
-    picture-other t n = ap (pictureOf b h) (bytes-other (rawOf b h p) (rows-raw b h pos p r .0) t n)
+  -- the picture that a slot holds, put into it
+  module _ (pos : 0 < b) (bytes : Bytes m) where
+    rows-bytes : Rows b h (slotBytes b h m slot)
+    unfolding slotBytes
+    rows-bytes = (
+      part-length (slot * (h * b)) (h * b) m fits,
+      bytes-take (h * b) (drop (slot * (h * b)) m) (bytes-drop (slot * (h * b)) m bytes),
+    )
+
+    pub rows-slot : Rows b h (slotPicture b h m slot)
+    unfolding slotPicture
+    rows-slot = rows-picture b h pos (slotBytes b h m slot) rows-bytes
+
+    pub with-own-picture : withPicture b h m slot (slotPicture b h m slot) ≡ m
+    unfolding withPicture slotPicture
+    with-own-picture = ap (withBytes b h m slot) (raw-picture b h pos (slotBytes b h m slot) rows-bytes) ∙ with-own
+
+-- ---- a slot that is lent as a part of the memory
+
+module _ (b h : ℕ) (m : List ℕ) (slot : ℕ) where
+  pub lent-picture : pictureOf b h (take (slot * (h * b) + h * b - slot * (h * b)) (drop (slot * (h * b)) m)) ≡ slotPicture b h m slot
+  unfolding slotPicture slotBytes
+  lent-picture = rw (add-sub-cancel-left (slot * (h * b)) (h * b))
+
+  -- it comes back with a picture
+  pub lent-back : (p part : List ℕ) → length p ≡ h * b → part ≡ rawOf b h p
+      → take (slot * (h * b)) m ++ (part ++ drop (slot * (h * b) + h * b - slot * (h * b)) (drop (slot * (h * b)) m))
+      ≡ withPicture b h m slot p
+  unfolding withPicture withBytes
+  lent-back p part e is = rw (is, add-sub-cancel-left (slot * (h * b)) (h * b), length-raw b h p e)
+
+-- ---- a memory of slots 0 to n
+
+module _ (b h n memoryLength : ℕ) (exact : memoryLength ≡ (n + 1) * (h * b)) where
+  pub slot-fits : (slot : ℕ) → slot ≤ n → slot * (h * b) + h * b ≤ memoryLength
+  slot-fits slot le = rw exact (more-rows slot (n + 1) (h * b) (omega arith))
+
+  pub slot-in : (slot : ℕ) → n ≤ 7 → slot ≤ n → SlotIn b h memoryLength slot
+  slot-in slot few le = record { few = omega arith; fits = slot-fits slot le }
+
+module _ (b h n : ℕ) (memory : List ℕ) (exact : length memory ≡ (n + 1) * (h * b)) where
+  slot-inside : (slot : ℕ) → slot ≤ n → slot * (h * b) + h * b ≤ length memory
+  slot-inside = slot-fits b h n (length memory) exact
+
+  -- a picture put into a slot leaves every other slot
+  pub others-kept : (slot : ℕ) → slot ≤ n → (picture : List ℕ) → length picture ≡ h * b → (t : ℕ) → (t ≡ slot → ⊥)
+      → slotPicture b h (withPicture b h memory slot picture) t ≡ slotPicture b h memory t
+  others-kept slot le = picture-other b h memory slot (slot-inside slot le)
+
+  length-bytes : (slot : ℕ) → slot ≤ n → length (slotBytes b h memory slot) ≡ h * b
+  unfolding slotBytes
+  length-bytes slot le = part-length (slot * (h * b)) (h * b) memory (slot-inside slot le)
+
+  -- a slot copied to slot 0 is what slot 0 holds
+  pub copied : (slot : ℕ) → slot ≤ n
+      → slotPicture b h (withBytes b h memory 0 (slotBytes b h memory slot)) 0 ≡ slotPicture b h memory slot
+  unfolding slotPicture
+  copied slot le =
+      ap (pictureOf b h) (bytes-same b h memory 0 (slot-inside 0 (omega arith)) (slotBytes b h memory slot) (length-bytes slot le))

@@ -2,3 +2,4 @@
 pub mod Pictures
 pub mod Slots
 pub mod Regions
+pub mod Facts

@@ -1,15 +1,19 @@
 -- Laws of what a run hands out next.
 -- Assumes nothing.
-use mathlib.Core.Path.{_≡_, refl, sym, ap, _∙_}
+use mathlib.Core.Path.{_≡_, refl, sym, ap, _∙_, subst}
 use mathlib.Core.Bool.{true}
 use mathlib.Core.List.{List, [], _∷_}
 use Prim.Native.Nat.{ℕ, _+_, _-_, _≤_}
 use native.Mathlib.Omega.{arith}
-use lib.ListN.{length, drop, length-drop, getD}
+use lib.ListN.{length, drop, length-drop}
+use Rattle.panel.proofs.Panels.{size-of}
 use Rattle.settings.specs.Settings.{Step, stepOf, stepsOf, panelOf, startCount, startSteps, stopCount, stopSteps, settingsGood, rowsIn}
 use Rattle.settings.specs.Steps.{fromWrite}
-use Rattle.settings.specs.Facts.{kindOf, kindSize, Found, Accepted}
+use Rattle.settings.specs.Facts.{kindOf, kindSize, Found}
+use Rattle.settings.specs.Plans.{SectionOf, PlanOf}
 use Rattle.settings.specs.declared.NextWrite.{NextWrite}
+use Rattle.settings.specs.declared.Section.{Section}
+use Rattle.settings.specs.declared.Plan.{Plan}
 use Rattle.settings.proofs.Steps.{length-steps, Turn, next-steps}
 use Rattle.settings.proofs.Accepted.{good-panel}
 use Rattle.run.specs.Conditions.{placeValid}
@@ -21,14 +25,12 @@ use Rattle.run.specs.declared.Passed.{Passed}
 use Rattle.run.specs.declared.Run.{Run}
 use Rattle.run.specs.declared.Position.{Position}
 use Rattle.run.specs.declared.Position.the-variants as place
-use Rattle.run.proofs.Due.{stops-here, steps-here}
-use Rattle.run.proofs.Place.{frames-some, rows-some}
 use Rattle.run.proofs.Valid.{at-start, at-line, at-stop}
 use Rattle.poll.specs.HandOut.{outcome, stepBytes, lineBytes, shownAfter, sendWrite, sendLine, handStart, handStop}
-use Rattle.poll.specs.Facts.{Sent, SlotIn, LineIn, Room}
+use Rattle.poll.specs.Facts.{Sent, LineIn}
 use Rattle.poll.specs.declared.Answer.the-variants.{Write, Line, Done}
-use Rattle.poll.specs.declared.Phase.{Phase}
-use Rattle.poll.specs.declared.Phase.the-variants.{Idle, Running}
+use Rattle.run.specs.declared.Phase.{Phase}
+use Rattle.run.specs.declared.Phase.the-variants.{Idle, Running}
 
 -- ---- the next write
 
@@ -51,56 +53,57 @@ module _ {panel : ℕ} {file : List ℕ} {steps : List Step} {r : NextWrite} (fo
 pub found-few : (panel : ℕ) (file : List ℕ) (n k : ℕ) (s : List ℕ) {r : NextWrite} → Found panel file (drop k (stepsOf panel n s)) r → r .left ≤ n
 found-few panel file n k s found = omega (arith, found .few, length-drop k (stepsOf panel n s), length-steps panel n s)
 
-module _ (file : List ℕ) (run : Run) (tick : Tick) (moment : Passed) (memory out : List ℕ) (panel : ℕ) (e : panel ≡ panelOf file)
+module _ (file : List ℕ) (run : Run) (tick : Tick) (moment : Passed) (memory out : List ℕ) {plan : Plan} (of : PlanOf file plan)
     (k : ℕ) (r : NextWrite) where
-  named : (n : ℕ) (s : List ℕ) → Found panel file (drop k (stepsOf panel n s)) r → Found (panelOf file) file (drop k (stepsOf (panelOf file) n s)) r
-  named n s found = rw e at found
+  left-after : r .left - 1 ≡ length (after (plan .panel) file r)
+  left-after = sym (length-steps (plan .panel) (r .left - 1) _)
 
-  left-after : r .left - 1 ≡ length (after (panelOf file) file r)
-  left-after = sym (length-steps (panelOf file) (r .left - 1) _)
+  -- the steps of a section
+  in-section : {section : Section} {count : ℕ} {steps : List Step} → SectionOf (plan .panel) file section count steps
+      → Found (plan .panel) file (drop k (stepsOf (plan .panel) (section .count) (drop (section .at) file))) r
+      → Found (plan .panel) file (drop k steps) r
+  in-section s = subst (λ (steps : List Step). Found (plan .panel) file (drop k steps) r) (s .steps-are)
 
   -- among the start steps
-  module _ (found : Found panel file (drop k (stepsOf panel (startCount file) (drop 3 file))) r) where
+  module _ (found : Found (plan .panel) file (drop k (stepsOf (plan .panel) (plan .start .count) (drop (plan .start .at) file))) r) where
     pub start-line : r .left ≡ 0 → sendLine file run tick moment memory out moment 1 0 0
         ≡ handStart file run tick moment memory out (fromWrite (drop k (startSteps file)))
-    start-line z = ap (handStart file run tick moment memory out) (found-none (named (startCount file) (drop 3 file) found) z)
+    start-line z = ap (handStart file run tick moment memory out) (found-none (in-section (of .start) found) z)
 
     pub start-write : (r .left ≡ 0 → ⊥)
-        → sendWrite file run tick moment memory out (stepOf (panelOf file) (drop (r .at) file)) (place.Start (startCount file - (r .left - 1)))
+        → sendWrite file run tick moment memory out (stepOf (plan .panel) (drop (r .at) file)) (place.Start (plan .start .count - (r .left - 1)))
         ≡ handStart file run tick moment memory out (fromWrite (drop k (startSteps file)))
     start-write d =
-        ap (λ (n : ℕ). sendWrite file run tick moment memory out (stepOf (panelOf file) (drop (r .at) file)) (place.Start (startCount file - n))) left-after
-        ∙ ap (handStart file run tick moment memory out) (found-some (named (startCount file) (drop 3 file) found) d)
+        let step : Step = stepOf (plan .panel) (drop (r .at) file) in
+        ap (λ (n : ℕ). sendWrite file run tick moment memory out step (place.Start (plan .start .count - n))) left-after
+        ∙ ap (λ (n : ℕ). sendWrite file run tick moment memory out step (place.Start (n - length (after (plan .panel) file r)))) (of .start .count-is)
+        ∙ ap (handStart file run tick moment memory out) (found-some (in-section (of .start) found) d)
 
-  -- among the stop steps, whose count stands at index `stop`
-  module _ (stop : ℕ) (accepted : Accepted file stop)
-      (found : Found panel file (drop k (stepsOf panel (getD file stop 0) (drop (stop + 1) file))) r) where
-    steps-at : fromWrite (drop k (stepsOf (panelOf file) (getD file stop 0) (drop (stop + 1) file))) ≡ fromWrite (drop k (stopSteps file))
-    steps-at = ap (λ (steps : List Step). fromWrite (drop k steps)) (sym (steps-here accepted))
-
+  -- among the stop steps
+  module _ (found : Found (plan .panel) file (drop k (stepsOf (plan .panel) (plan .stop .count) (drop (plan .stop .at) file))) r) where
     pub stop-done : {after-copy : List ℕ} → r .left ≡ 0 → after-copy ≡ shownAfter file memory (run .slot)
         → outcome Done Idle after-copy out ≡ handStop file run tick moment memory out (fromWrite (drop k (stopSteps file)))
     stop-done z p =
         ap (λ (m : List ℕ). outcome Done Idle m out) p
-        ∙ ap (handStop file run tick moment memory out) (found-none (named (getD file stop 0) (drop (stop + 1) file) found) z ∙ steps-at)
+        ∙ ap (handStop file run tick moment memory out) (found-none (in-section (of .stop) found) z)
 
     pub stop-write : (r .left ≡ 0 → ⊥)
-        → sendWrite file run tick moment memory out (stepOf (panelOf file) (drop (r .at) file)) (place.Stop (getD file stop 0 - (r .left - 1)))
+        → sendWrite file run tick moment memory out (stepOf (plan .panel) (drop (r .at) file)) (place.Stop (plan .stop .count - (r .left - 1)))
         ≡ handStop file run tick moment memory out (fromWrite (drop k (stopSteps file)))
     stop-write d =
-        let step : Step = stepOf (panelOf file) (drop (r .at) file) in
-        ap (λ (n : ℕ). sendWrite file run tick moment memory out step (place.Stop (getD file stop 0 - n))) left-after
-        ∙ ap (λ (n : ℕ). sendWrite file run tick moment memory out step (place.Stop (n - length (after (panelOf file) file r)))) (sym (stops-here accepted))
-        ∙ ap (handStop file run tick moment memory out) (found-some (named (getD file stop 0) (drop (stop + 1) file) found) d ∙ steps-at)
+        let step : Step = stepOf (plan .panel) (drop (r .at) file) in
+        ap (λ (n : ℕ). sendWrite file run tick moment memory out step (place.Stop (plan .stop .count - n))) left-after
+        ∙ ap (λ (n : ℕ). sendWrite file run tick moment memory out step (place.Stop (n - length (after (plan .panel) file r)))) (of .stop .count-is)
+        ∙ ap (handStop file run tick moment memory out) (found-some (in-section (of .stop) found) d)
 
 -- ---- what goes out, and where the run goes on
 
 module _ (file : List ℕ) (run : Run) (tick : Tick) (moment : Passed) (out : List ℕ) where
-  pub write-out : (panel at : ℕ) (next : Position) {n : ℕ} {o : List ℕ} {phase : Phase} → panel ≡ panelOf file
+  pub write-out : (panel at : ℕ) (next : Position) {n : ℕ} {o : List ℕ} {phase : Phase}
       → Sent (stepBytes (stepOf panel (drop at file))) out n o → phase ≡ Running (moved run tick moment (run .first) next)
       → (memory : List ℕ) → outcome (Write n) phase memory o
-      ≡ sendWrite file run tick moment memory out (stepOf (panelOf file) (drop at file)) next
-  write-out panel at next e sent p memory = rw (sent .many, sent .whole, p, e)
+      ≡ sendWrite file run tick moment memory out (stepOf panel (drop at file)) next
+  write-out panel at next sent p memory = rw (sent .many, sent .whole, p)
 
   pub line-out : (memory : List ℕ) (first : Passed) (stage frame row h N : ℕ) {n : ℕ} {o : List ℕ} {phase : Phase} {next : Position}
       → h ≡ rowsIn file → N ≡ runFrames file → Sent (lineBytes file memory (run .slot) stage row) out n o
@@ -111,8 +114,8 @@ module _ (file : List ℕ) (run : Run) (tick : Tick) (moment : Passed) (out : Li
 -- the first line of a run
 pub first-line : (file : List ℕ) → settingsGood file ≡ true → LineIn file 1 0 0
 first-line file good =
-    let p = good-panel file good in
-    record { good = good; low = omega arith; high = omega arith; frames = frames-some (panelOf file) p; rows = omega (arith, rows-some (panelOf file) p) }
+    let size = size-of (panelOf file) (good-panel file good) in
+    record { good = good; low = omega arith; high = omega arith; frames = size .frames-some; rows = size .high }
 
 -- ---- what a valid place allows
 
@@ -130,6 +133,3 @@ module _ (file : List ℕ) (run : Run) (valid : placeValid file run (run .next) 
   line-place stage frame row good e =
       let a = at-line file run stage frame row (here e) in
       record { good = good; low = a .low; high = a .high; frames = a .frames; rows = a .rows }
-
-pub room-slot : (file : List ℕ) (run : Run) (memory : List ℕ) → Room file run memory → SlotIn file (run .slot) memory
-room-slot file run memory room = record { high = room .high; inside = room .inside }

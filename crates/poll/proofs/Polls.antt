@@ -19,8 +19,8 @@ use Rattle.poll.specs.HandOut.{Outcome, outcome, handOut}
 use Rattle.poll.specs.Poll.{pollAt, pollCases, pollRun}
 use Rattle.poll.specs.declared.Answer.{Answer}
 use Rattle.poll.specs.declared.Answer.the-variants.{Refused, Wait}
-use Rattle.poll.specs.declared.Phase.{Phase}
-use Rattle.poll.specs.declared.Phase.the-variants.{Running}
+use Rattle.run.specs.declared.Phase.{Phase}
+use Rattle.run.specs.declared.Phase.the-variants.{Running}
 
 -- ---- at a moment, `ms` before the next thing is due
 

@@ -8,8 +8,8 @@ use native.Mathlib.Nat.{add-sub-cancel-left, one-mul, mul-le-mul-right, zero-mul
 use native.Mathlib.Omega.{arith}
 use borrow.Author.Tests.{le-leb, lt-leb}
 use lib.Dec.{leb}
-use lib.ListN.{length, getD, set, take, drop, length-drop, take-append-drop}
-use lib.Seq.{length-take-le, take-append-le, drop-append-le, drop-drop, getD-drop, getD-append-add}
+use lib.ListN.{length, getD, set, take, drop, length-drop}
+use lib.Seq.{length-take-le, getD-drop, getD-append-add}
 use Rattle.lists.specs.Lists.{overlay, overlayAt}
 use Rattle.lists.proofs.Lists.{copy-more}
 use Rattle.lists.proofs.Parts.{more-rows, part-length}
@@ -17,10 +17,12 @@ use Rattle.panel.specs.Dots.{rowDot}
 use Rattle.wire.specs.Line.{lineLength, handedLine}
 use Rattle.wire.proofs.Line.{length-handed}
 use Rattle.settings.specs.Settings.{rowBytesIn, rowsIn}
-use Rattle.picture.specs.Slots.{pictureOf, slotBytes, withBytes, slotPicture, pictureRow}
+use Rattle.picture.specs.Slots.{slotBytes, withBytes, slotPicture, pictureRow}
+use Rattle.picture.specs.Facts.{SlotIn}
+use Rattle.picture.proofs.Slots.{row-of-slot}
 use Rattle.balance.specs.Sums.{pictureOfStage}
 use Rattle.poll.specs.HandOut.{lineBytes, shownAfter}
-use Rattle.poll.specs.Facts.{Sent, SlotIn}
+use Rattle.poll.specs.Facts.{Sent}
 
 -- ---- the slot that a stage looks at
 
@@ -43,46 +45,30 @@ stage-le stage slot = go (leb stage 2)
 
 -- ---- a row of a slot
 
--- a part of a front is that part of the whole
-part-of : (w i n : ℕ) (l : List ℕ) → i + w ≤ n → n ≤ length l → take w (drop i l) ≡ take w (drop i (take n l))
-part-of w i n l a b =
-    let e : length (take n l) ≡ n = length-take-le n l b in
-    let j : i ≤ length (take n l) = omega arith in
-    let v : w ≤ length (drop i (take n l)) = rw length-drop (omega arith) in
-    ap (λ (z : List ℕ). take w (drop i z)) (sym (take-append-drop n l))
-    ∙ ap (take w) (drop-append-le i (take n l) (drop n l) j)
-    ∙ take-append-le w (drop i (take n l)) (drop n l) v
-
-row-of-slot : (b h : ℕ) (m : List ℕ) (slot row : ℕ) → slot * (h * b) + h * b ≤ length m → row < h
-    → take b (drop (slot * (h * b) + row * b) m) ≡ pictureRow b (slotPicture b h m slot) row
-unfolding slotPicture pictureOf slotBytes
-row-of-slot b h m slot row inside l =
-    ap (take b) (sym (drop-drop (row * b) (slot * (h * b)) m))
-    ∙ part-of b (row * b) (h * b) (drop (slot * (h * b)) m) (more-rows row h b l) (rw length-drop (omega arith))
-
 -- where a row begins, as the code has it
 pub row-at : (file : List ℕ) (row : ℕ) {start t s h b : ℕ} → t ≡ s → h ≡ rowsIn file → b ≡ rowBytesIn file → start ≡ t * (h * b) + row * b
     → start ≡ s * (rowsIn file * rowBytesIn file) + row * rowBytesIn file
 row-at file row et eh eb e = e ∙ rw (et, eh, eb)
 
 -- the row that a stage looks at, lent from index `start` on
-module _ (file memory : List ℕ) (slot stage row : ℕ) (room : SlotIn file slot memory) (l : row < rowsIn file)
+module _ (file memory : List ℕ) (slot stage row : ℕ) (room : SlotIn (rowBytesIn file) (rowsIn file) (length memory) slot) (l : row < rowsIn file)
     (start w : ℕ) (at : start ≡ pictureOfStage stage 0 slot * (rowsIn file * rowBytesIn file) + row * rowBytesIn file)
     (wide : w ≡ rowBytesIn file) where
-  inside : pictureOfStage stage 0 slot * (rowsIn file * rowBytesIn file) + rowsIn file * rowBytesIn file ≤ length memory
-  inside =
+  looked-at : SlotIn (rowBytesIn file) (rowsIn file) (length memory) (pictureOfStage stage 0 slot)
+  looked-at =
       let size : ℕ = rowsIn file * rowBytesIn file in
-      let le : pictureOfStage stage 0 slot * size ≤ slot * size = mul-le-mul-right size (stage-le stage slot) in
-      omega (arith, room .inside)
+      let earlier = stage-le stage slot in
+      let le : pictureOfStage stage 0 slot * size ≤ slot * size = mul-le-mul-right size earlier in
+      record { few = omega (arith, room .few); fits = omega (arith, room .fits) }
 
   pub row-fits : start + w ≤ length memory
-  row-fits = omega (arith, inside, more-rows row (rowsIn file) (rowBytesIn file) l)
+  row-fits = omega (arith, looked-at .fits, more-rows row (rowsIn file) (rowBytesIn file) l)
 
   row-lent : take (start + w - start) (drop start memory)
       ≡ pictureRow (rowBytesIn file) (slotPicture (rowBytesIn file) (rowsIn file) memory (pictureOfStage stage 0 slot)) row
   row-lent =
       rw (add-sub-cancel-left start w, at, wide)
-      (row-of-slot (rowBytesIn file) (rowsIn file) memory (pictureOfStage stage 0 slot) row inside l)
+      (row-of-slot (rowBytesIn file) (rowsIn file) memory (pictureOfStage stage 0 slot) row (looked-at .fits) l)
 
   row-long : length (take (start + w - start) (drop start memory)) ≡ rowBytesIn file
   row-long = rw (add-sub-cancel-left start w) (part-length start w memory row-fits ∙ wide)
@@ -100,26 +86,26 @@ module _ (file memory : List ℕ) (slot stage row : ℕ) (room : SlotIn file slo
 
 -- ---- the copy to slot 0
 
--- slot 0 has taken i bytes of those from index `from` on, which stand behind it: one more
+-- slot 0 has taken i bytes of those from index `from` on, which stand after it: one more
 pub shown-more : (m d : List ℕ) (from i : ℕ) → i ≤ from → from + i < length m → d ≡ overlayAt 0 (take i (drop from m)) m
     → set d i (getD d (from + i) 0) ≡ overlayAt 0 (take (i + 1) (drop from m)) m
 shown-more m d from i h l e =
     let n : length (take i (drop from m)) ≡ i = length-take-le i (drop from m) (omega (arith, length-drop from m)) in
     let j : from + i ≡ length (take i (drop from m)) + from = omega arith in
-    let behind : getD d (from + i) 0 ≡ getD (drop from m) i 0 =
+    let later : getD d (from + i) 0 ≡ getD (drop from m) i 0 =
     rw (e, j, getD-append-add (take i (drop from m)) (drop (length (take i (drop from m))) m) from 0, n)
     (getD-drop i m from 0 ∙ rw (getD-drop from m i 0) (ap (λ (k : ℕ). getD m k 0) (omega arith))) in
-    rw behind
+    rw later
     (copy-more 0 m (drop from m) d i i e (omega arith) (rw length-drop (omega arith)) (omega arith))
 
 -- a slot of b row bytes and h rows, as the code has them
-module _ (file : List ℕ) (slot : ℕ) (memory : List ℕ) (room : SlotIn file slot memory) (h b : ℕ) (eh : h ≡ rowsIn file) (eb : b ≡ rowBytesIn file) where
+module _ (file : List ℕ) (slot : ℕ) (memory : List ℕ) (room : SlotIn (rowBytesIn file) (rowsIn file) (length memory) slot) (h b : ℕ) (eh : h ≡ rowsIn file) (eb : b ≡ rowBytesIn file) where
   pub slot-fits : slot * (h * b) + h * b ≤ length memory
-  slot-fits = rw (eh, eb) (room .inside)
+  slot-fits = rw (eh, eb) (room .fits)
 
-  -- it stands behind slot 0
-  pub slot-behind : 1 ≤ slot → h * b ≤ slot * (h * b)
-  slot-behind l = rw one-mul at (mul-le-mul-right (h * b) l)
+  -- it stands after slot 0
+  pub slot-later : 1 ≤ slot → h * b ≤ slot * (h * b)
+  slot-later l = rw one-mul at (mul-le-mul-right (h * b) l)
 
   pub shown-as : {after : List ℕ} → after ≡ overlayAt 0 (take (h * b) (drop (slot * (h * b)) memory)) memory → after ≡ shownAfter file memory slot
   unfolding withBytes slotBytes

@@ -4,15 +4,12 @@ use mathlib.Core.Path.{_≡_, refl, sym, ap, _∙_}
 use mathlib.Core.List.{List, []}
 use Prim.Native.Nat.{ℕ, _+_}
 use native.Mathlib.Omega.{arith}
-use lib.ListN.{length, take, drop}
-use lib.Seq.{drop-drop}
+use lib.ListN.{length}
 use Rattle.lists.specs.Lists.{overlay}
-use Rattle.panel.specs.Registers.{dataLength}
 use Rattle.wire.specs.Registers.{registerWrite}
-use Rattle.settings.specs.Settings.{Step, write, wait, malformed, stepOf}
+use Rattle.settings.specs.Settings.{Step, write, wait, malformed}
 use Rattle.settings.specs.Facts.{kindOf}
-use Rattle.settings.specs.declared.Kind.the-variants.{Write, Wait, Malformed}
-use Rattle.settings.proofs.Steps.{step-write}
+use Rattle.settings.specs.declared.Kind.the-variants.{Wait, Malformed}
 use Rattle.poll.specs.HandOut.{stepBytes}
 use Rattle.poll.specs.Facts.{Sent}
 
@@ -34,12 +31,8 @@ malformed-bytes (write r d) e = absurd (let z : _≡_ {A = ℕ} 0 1 = cc in omeg
 malformed-bytes (wait n) e = refl
 malformed-bytes malformed e = refl
 
--- the bytes of a write hold the data that stand from index `at` + 2 of the file on
-module _ (panel : ℕ) (file : List ℕ) (at register : ℕ) (e : kindOf (stepOf panel (drop at file)) ≡ Write register) where
-  pub write-sent : (n : ℕ) → n ≡ dataLength register → {out : List ℕ} {r : ℕ} {o : List ℕ}
-      → (r ≡ 3 + length (take n (drop (at + 2) file))) × (o ≡ overlay (registerWrite register (take n (drop (at + 2) file))) out)
-      → Sent (stepBytes (stepOf panel (drop at file))) out r o
-  write-sent n d {out} put =
-      let same : registerWrite register (take n (drop (at + 2) file)) ≡ stepBytes (stepOf panel (drop at file)) =
-      rw (step-write panel register (drop at file) e, d, drop-drop 2 at file) in
-      sent-as out same (record { many = omega (arith, put .0); whole = put .1 })
+-- the bytes of a write hold its data
+pub write-sent : (step : Step) (register : ℕ) (bytes : List ℕ) → step ≡ write register bytes → {out : List ℕ} {r : ℕ} {o : List ℕ}
+    → (r ≡ 3 + length bytes) × (o ≡ overlay (registerWrite register bytes) out) → Sent (stepBytes step) out r o
+write-sent step register bytes e {out} put =
+    sent-as out (sym (ap stepBytes e)) (record { many = omega (arith, put .0); whole = put .1 })

@@ -9,15 +9,15 @@ use Rattle.poll.specs.declared.Answer.the-variants.{Refused, Write, Line
 -- the number given back: 0 where the poll is accepted
 abbrev pub answerNumber : Answer → ℕ
 answerNumber (Refused number) = number
-answerNumber (Write length) = 0
-answerNumber (Line length) = 0
+answerNumber (Write n) = 0
+answerNumber (Line n) = 0
 answerNumber (Wait ms) = 0
 answerNumber Done = 0
 
 -- the bytes that were put out, by the answer and the output at exit
 abbrev pub putOut : (answer : Answer) (out : List ℕ) → List ℕ
 putOut (Refused number) out = []
-putOut (Write length) out = take length out
-putOut (Line length) out = take length out
+putOut (Write n) out = take n out
+putOut (Line n) out = take n out
 putOut (Wait ms) out = []
 putOut Done out = []

@@ -1,12 +1,13 @@
 -- What the functions below a poll may assume, and what they tell.
 -- Assumes nothing.
-use Prim.Native.Nat.{ℕ, _+_, _*_, _≤_, _<_}
+use Prim.Native.Nat.{ℕ, _≤_, _<_}
 use mathlib.Core.Path.{_≡_}
 use mathlib.Core.Bool.{true}
 use mathlib.Core.List.{List}
 use lib.ListN.{length}
 use Rattle.lists.specs.Lists.{overlay}
 use Rattle.settings.specs.Settings.{settingsGood, rowBytesIn, rowsIn}
+use Rattle.picture.specs.Facts.{SlotIn}
 use Rattle.run.specs.Due.{runFrames}
 use Rattle.run.specs.declared.Run.{Run}
 
@@ -14,11 +15,6 @@ use Rattle.run.specs.declared.Run.{Run}
 pub record Sent (bytes out : List ℕ) (count : ℕ) (after : List ℕ) : Type 0 where
   pub many : count ≡ length bytes
   pub whole : after ≡ overlay bytes out
-
--- a slot lies in the memory
-pub record SlotIn (file : List ℕ) (slot : ℕ) (memory : List ℕ) : Type 0 where
-  pub high : slot ≤ 7
-  pub inside : slot * (rowsIn file * rowBytesIn file) + rowsIn file * rowBytesIn file ≤ length memory
 
 -- a row of a frame of a stage, on the panel of an accepted file
 pub record LineIn (file : List ℕ) (stage frame row : ℕ) : Type 0 where
@@ -28,8 +24,7 @@ pub record LineIn (file : List ℕ) (stage frame row : ℕ) : Type 0 where
   pub frames : frame < runFrames file
   pub rows : row < rowsIn file
 
--- slot 0 and the run's slot lie in the memory, and differ
+-- the run's slot lies in the memory, and is not slot 0
 pub record Room (file : List ℕ) (run : Run) (memory : List ℕ) : Type 0 where
   pub low : 1 ≤ run .slot
-  pub high : run .slot ≤ 7
-  pub inside : run .slot * (rowsIn file * rowBytesIn file) + rowsIn file * rowBytesIn file ≤ length memory
+  pub slot-in : SlotIn (rowBytesIn file) (rowsIn file) (length memory) (run .slot)

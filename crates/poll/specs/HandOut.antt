@@ -21,8 +21,8 @@ use Rattle.run.specs.declared.Position.the-variants.{Start, Line, Stop}
 use Rattle.run.specs.declared.Run.{Run}
 use Rattle.poll.specs.declared.Answer.{Answer}
 use Rattle.poll.specs.declared.Answer.the-variants as answer
-use Rattle.poll.specs.declared.Phase.{Phase}
-use Rattle.poll.specs.declared.Phase.the-variants.{Idle, Running}
+use Rattle.run.specs.declared.Phase.{Phase}
+use Rattle.run.specs.declared.Phase.the-variants.{Idle, Running}
 
 -- the answer, the phase of the store afterwards, and the picture memory and the output at exit
 pub data Outcome : Type 0 where
@@ -60,12 +60,12 @@ module _ (file : List ℕ) (run : Run) (tick : Tick) (moment : Passed) (memory o
       memory
       (overlay (lineBytes file memory (run .slot) stage row) out)
 
-  -- the start steps from the next write on; behind them the first line, whose moment is F
+  -- the start steps from the next write on; after them the first line, whose moment is F
   abbrev pub handStart : List Step → Outcome
   handStart [] = sendLine moment 1 0 0
   handStart (step ∷ steps) = sendWrite step (Start (startCount file - length steps))
 
-  -- the stop steps from the next write on; behind them done: the run's slot becomes the shown picture
+  -- the stop steps from the next write on; after them done: the run's slot becomes the shown picture
   abbrev pub handStop : List Step → Outcome
   handStop [] = outcome answer.Done Idle (shownAfter file memory (run .slot)) out
   handStop (step ∷ steps) = sendWrite step (Stop (stopCount file - length steps))

@@ -14,7 +14,7 @@ use Rattle.run.specs.declared.Passed.{Passed}
 use Rattle.run.specs.declared.Run.{Run}
 use Rattle.poll.specs.HandOut.{Outcome, outcome, handOut}
 use Rattle.poll.specs.declared.Answer.the-variants.{Refused, Wait}
-use Rattle.poll.specs.declared.Phase.the-variants.{Running}
+use Rattle.run.specs.declared.Phase.the-variants.{Running}
 
 -- at a moment: the ms still to go until the next thing is due, or that thing
 unfoldable pub pollAt : (file : List ℕ) (run : Run) (tick : Tick) (moment : Passed) (memory out : List ℕ) → Outcome

@@ -1,25 +1,26 @@
 // A poll of a run under way: a wait answer, or the one thing that is handed out.
 ghost use mathlib.Core.Path.{_≡_};
 ghost use Prim.Native.Nat.{ℕ, _+_, _*_, _≤_, _<_};
-ghost use mathlib.Core.Bool.{true};
 ghost use mathlib.Core.List.{List};
 ghost use lib.ListN.{length, take, drop};
 ghost use Rattle.lists.specs.Lists.{overlayAt};
-ghost use Rattle.settings.specs.Settings.{stepOf, panelOf, startCount, startSteps, stopCount, stopSteps, settingsGood, rowBytesIn, rowsIn};
+ghost use Rattle.settings.specs.Settings.{rowBytesIn, stepOf, startCount, startSteps, stopCount, stopSteps, rowsIn};
 ghost use Rattle.settings.specs.Steps.{fromWrite};
 ghost use Rattle.balance.specs.Sums.{pictureOfStage};
-ghost use Rattle.run.specs.Runs.{moved, waited};
 ghost use Rattle.run.specs.Facts.{Ready};
-ghost use Rattle.settings.specs.Facts.{Accepted};
+ghost use Rattle.settings.specs.Plans.{PlanOf};
+ghost use Rattle.picture.specs.Facts.{SlotIn};
 ghost use Rattle.poll.specs.HandOut.{stepBytes, lineBytes, shownAfter, outcome, sendWrite, sendLine, handStart, handStop, handOut};
 ghost use Rattle.poll.specs.Poll.{pollAt, pollRun};
-ghost use Rattle.poll.specs.Facts.{Sent, SlotIn, LineIn, Room};
+ghost use Rattle.poll.specs.Facts.{Sent, LineIn, Room};
 use run::Passed;
+use run::Phase;
 use run::Position;
 use run::Reading;
 use run::Run;
 use run::Tick;
 use settings::Kind;
+use settings::Plan;
 
 // What a poll answers: the number of a refusal; a register write or a line, with the length put out; the ms still to go; or that
 // the run is over.
@@ -29,13 +30,6 @@ pub enum Answer {
     Line(usize),
     Wait(u32),
     Done,
-}
-
-// Where a store stands: no run is under way, a run was abandoned, or one is under way.
-pub enum Phase {
-    Idle,
-    Abandoned,
-    Running(Run),
 }
 
 // What a poll of a run leaves besides the lent bytes.
@@ -52,28 +46,12 @@ fn put_step(file: &[u8], at: usize, panel: usize, out: &mut [u8]) -> usize
     let kind = settings::step_at(file, at, panel);
     match kind {
         Kind::Write(register) => {
-            let start = at + 2;
-            let end = start + panel::data_length(register);
-            wire::put_write(out, register, &file[start..end])
+            let data = settings::data_of(file, panel, at, register);
+            wire::put_write(out, register, data)
         }
         Kind::Wait(_) => 0,
         Kind::Malformed => 0,
     }
-}
-
-// The rows of the panel that a settings file names, and the bytes of a row.
-fn rows_in(file: &[u8]) -> usize
-    requires { ⌜ settingsGood (now file) ≡ true ⌝ }
-    ensures { λ r. ⌜ (r ≡ rowsIn (now (file .entry))) × (r ≤ 176) ⌝ }
-{
-    panel::rows(settings::panel_of(file))
-}
-
-fn row_bytes_in(file: &[u8]) -> usize
-    requires { ⌜ settingsGood (now file) ≡ true ⌝ }
-    ensures { λ r. ⌜ (r ≡ rowBytesIn (now (file .entry))) × (r ≤ 33) ⌝ }
-{
-    panel::row_bytes(settings::panel_of(file))
 }
 
 // The slot whose picture a stage looks at: the shown one in stages 1 and 2, the run's in stages 3 and 4.
@@ -92,19 +70,36 @@ fn row_start(rows: usize, bytes: usize, slot: u32, row: u32) -> usize
 }
 
 // Puts the line of a row, and the write after it, at the front of the output, and answers their length.
-fn put_line(file: &[u8], memory: &[u8], slot: u32, stage: u32, row: u32, out: &mut [u8]) -> usize
-    requires { ⌜ (settingsGood (now file) ≡ true) × (SlotIn (now file) slot (now memory)) × (1 ≤ stage) × (stage ≤ 4)
+fn put_line(
+    file: &[u8],
+    plan: Plan,
+    memory: &[u8],
+    slot: u32,
+    stage: u32,
+    row: u32,
+    out: &mut [u8],
+) -> usize
+    requires { ⌜ (PlanOf (now file) plan) × (SlotIn (rowBytesIn (now file)) (rowsIn (now file)) (length (now memory)) slot) × (1 ≤ stage) × (stage ≤ 4)
         × (row < rowsIn (now file)) × (117 ≤ length (now out)) ⌝ }
     ensures { λ r. ⌜ Sent (lineBytes (now (file .entry)) (now (memory .entry)) slot stage row) (now (out .entry)) r (now (out .exit)) ⌝ }
 {
-    let rows = rows_in(file);
-    let row_bytes = row_bytes_in(file);
-    let start = row_start(rows, row_bytes, slot_of_stage(stage, slot), row);
-    let end = start + row_bytes;
-    wire::hand_out_line(out, rows, stage as usize, row as usize, &memory[start..end])
+    let start = row_start(
+        plan.shape.rows,
+        plan.shape.bytes,
+        slot_of_stage(stage, slot),
+        row,
+    );
+    let end = start + plan.shape.bytes;
+    wire::hand_out_line(
+        out,
+        plan.shape.rows,
+        stage as usize,
+        row as usize,
+        &memory[start..end],
+    )
 }
 
-// Copies the `size` bytes from index `from` on, which stand behind slot 0, to slot 0.
+// Copies the `size` bytes from index `from` on, which stand after slot 0, to slot 0.
 fn copy_to_shown(memory: &mut [u8], from: usize, size: usize)
     requires { ⌜ (size ≤ from) × (from + size ≤ length (now memory)) ⌝ }
     ensures { λ _. ⌜ now (memory .exit) ≡ overlayAt 0 (take size (drop from (now (memory .entry)))) (now (memory .entry)) ⌝ }
@@ -117,48 +112,18 @@ fn copy_to_shown(memory: &mut [u8], from: usize, size: usize)
 }
 
 // Makes the picture of a slot the shown one.
-fn show_slot(file: &[u8], slot: u32, memory: &mut [u8])
-    requires { ⌜ (settingsGood (now file) ≡ true) × (1 ≤ slot) × (SlotIn (now file) slot (now memory)) ⌝ }
+fn show_slot(file: &[u8], plan: Plan, slot: u32, memory: &mut [u8])
+    requires { ⌜ (PlanOf (now file) plan) × (1 ≤ slot) × (SlotIn (rowBytesIn (now file)) (rowsIn (now file)) (length (now memory)) slot) ⌝ }
     ensures { λ _. ⌜ now (memory .exit) ≡ shownAfter (now (file .entry)) (now (memory .entry)) slot ⌝ }
 {
-    let size = rows_in(file) * row_bytes_in(file);
+    let size = plan.shape.rows * plan.shape.bytes;
     copy_to_shown(memory, slot as usize * size, size);
-}
-
-// The run after something was handed out at a moment.
-fn go_on(run: Run, tick: Tick, moment: Passed, first: Passed, next: Position) -> Phase
-    ensures { λ r. ⌜ r ≡ Phase.Running (moved run tick moment first next) ⌝ }
-{
-    Phase::Running(Run {
-        slot: run.slot,
-        last: tick,
-        passed: moment,
-        handed: moment,
-        first,
-        next,
-    })
-}
-
-// The run after a wait answer.
-fn wait_on(run: Run, tick: Tick, moment: Passed) -> Phase
-    ensures { λ r. ⌜ r ≡ Phase.Running (waited run tick moment) ⌝ }
-{
-    let handed = run.handed;
-    let first = run.first;
-    let next = run.next;
-    Phase::Running(Run {
-        slot: run.slot,
-        last: tick,
-        passed: moment,
-        handed,
-        first,
-        next,
-    })
 }
 
 // Hands out the write at index `at` of the file; the run goes on from `next`.
 fn hand_write(
     file: &[u8],
+    panel: usize,
     at: usize,
     run: Run,
     tick: Tick,
@@ -166,16 +131,16 @@ fn hand_write(
     next: Position,
     out: &mut [u8],
 ) -> Handed
-    requires { ⌜ (settingsGood (now file) ≡ true) × (at ≤ length (now file)) × (117 ≤ length (now out)) ⌝ }
+    requires { ⌜ (panel < 3) × (at ≤ length (now file)) × (117 ≤ length (now out)) ⌝ }
     ensures { λ r. ⌜ ((memory : List ℕ) → outcome (r .answer) (r .phase) memory (now (out .exit))
         ≡ sendWrite (now (file .entry)) run tick moment memory (now (out .entry))
-        (stepOf (panelOf (now (file .entry))) (drop at (now (file .entry)))) next) ⌝ }
+        (stepOf panel (drop at (now (file .entry)))) next) ⌝ }
 {
-    let length = put_step(file, at, settings::panel_of(file), out);
+    let len = put_step(file, at, panel, out);
     let first = run.first;
-    let phase = go_on(run, tick, moment, first, next);
+    let phase = run::go_on(run, tick, moment, first, next);
     Handed {
-        answer: Answer::Write(length),
+        answer: Answer::Write(len),
         phase,
     }
 }
@@ -183,6 +148,7 @@ fn hand_write(
 // Hands out a line; F is `first`.
 fn hand_line(
     file: &[u8],
+    plan: Plan,
     run: Run,
     tick: Tick,
     moment: Passed,
@@ -193,23 +159,24 @@ fn hand_line(
     memory: &[u8],
     out: &mut [u8],
 ) -> Handed
-    requires { ⌜ (LineIn (now file) stage frame row) × (SlotIn (now file) (run .slot) (now memory)) × (117 ≤ length (now out)) ⌝ }
+    requires { ⌜ (PlanOf (now file) plan) × (LineIn (now file) stage frame row) × (SlotIn (rowBytesIn (now file)) (rowsIn (now file)) (length (now memory)) (run .slot)) × (117 ≤ length (now out)) ⌝ }
     ensures { λ r. ⌜ outcome (r .answer) (r .phase) (now (memory .entry)) (now (out .exit))
         ≡ sendLine (now (file .entry)) run tick moment (now (memory .entry)) (now (out .entry)) first stage frame row ⌝ }
 {
-    let length = put_line(file, memory, run.slot, stage, row, out);
-    let rows = rows_in(file) as u32;
-    let next = run::next_position(rows, run::run_frames(file), stage, frame, row);
-    let phase = go_on(run, tick, moment, first, next);
+    let len = put_line(file, plan, memory, run.slot, stage, row, out);
+    let rows = plan.shape.rows as u32;
+    let next = run::next_position(rows, plan.shape.frames, stage, frame, row);
+    let phase = run::go_on(run, tick, moment, first, next);
     Handed {
-        answer: Answer::Line(length),
+        answer: Answer::Line(len),
         phase,
     }
 }
 
-// Hands out the next write from start step k on, or behind the start steps the first line, whose moment is F.
+// Hands out the next write from start step k on, or after the start steps the first line, whose moment is F.
 fn hand_start(
     file: &[u8],
+    plan: Plan,
     run: Run,
     tick: Tick,
     moment: Passed,
@@ -217,27 +184,28 @@ fn hand_start(
     memory: &[u8],
     out: &mut [u8],
 ) -> Handed
-    requires { ⌜ (settingsGood (now file) ≡ true) × (k ≤ startCount (now file)) × (SlotIn (now file) (run .slot) (now memory))
+    requires { ⌜ (PlanOf (now file) plan) × (k ≤ startCount (now file)) × (SlotIn (rowBytesIn (now file)) (rowsIn (now file)) (length (now memory)) (run .slot))
         × (117 ≤ length (now out)) ⌝ }
     ensures { λ r. ⌜ outcome (r .answer) (r .phase) (now (memory .entry)) (now (out .exit))
         ≡ handStart (now (file .entry)) run tick moment (now (memory .entry)) (now (out .entry))
         (fromWrite (drop k (startSteps (now (file .entry))))) ⌝ }
 {
-    let n = file[2] as usize;
-    let found = settings::next_write_from(file, settings::panel_of(file), 3, n, k as usize);
+    let panel = plan.panel;
+    let n = plan.start.count;
+    let found = settings::next_write_from(file, panel, plan.start.at, n, k as usize);
     let at = found.at;
     let left = found.left;
     if left == 0 {
-        return hand_line(file, run, tick, moment, moment, 1, 0, 0, memory, out);
+        return hand_line(file, plan, run, tick, moment, moment, 1, 0, 0, memory, out);
     }
     let next = Position::Start((n - (left - 1)) as u32);
-    hand_write(file, at, run, tick, moment, next, out)
+    hand_write(file, panel, at, run, tick, moment, next, out)
 }
 
-// Hands out the next write from stop step k on, or behind the stop steps done: the run's slot becomes the shown picture.
+// Hands out the next write from stop step k on, or after the stop steps done: the run's slot becomes the shown picture.
 fn hand_stop(
     file: &[u8],
-    stop: usize,
+    plan: Plan,
     run: Run,
     tick: Tick,
     moment: Passed,
@@ -245,39 +213,39 @@ fn hand_stop(
     memory: &mut [u8],
     out: &mut [u8],
 ) -> Handed
-    requires { ⌜ (Accepted (now file) stop) × (k ≤ stopCount (now file)) × (Room (now file) run (now memory))
+    requires { ⌜ (PlanOf (now file) plan) × (k ≤ stopCount (now file)) × (Room (now file) run (now memory))
         × (117 ≤ length (now out)) ⌝ }
     ensures { λ r. ⌜ outcome (r .answer) (r .phase) (now (memory .exit)) (now (out .exit))
         ≡ handStop (now (file .entry)) run tick moment (now (memory .entry)) (now (out .entry))
         (fromWrite (drop k (stopSteps (now (file .entry))))) ⌝ }
 {
-    let panel = settings::panel_of(file);
-    let n = file[stop] as usize;
-    let found = settings::next_write_from(file, panel, stop + 1, n, k as usize);
+    let panel = plan.panel;
+    let n = plan.stop.count;
+    let found = settings::next_write_from(file, panel, plan.stop.at, n, k as usize);
     let at = found.at;
     let left = found.left;
     if left == 0 {
-        show_slot(file, run.slot, memory);
+        show_slot(file, plan, run.slot, memory);
         return Handed {
             answer: Answer::Done,
             phase: Phase::Idle,
         };
     }
     let next = Position::Stop((n - (left - 1)) as u32);
-    hand_write(file, at, run, tick, moment, next, out)
+    hand_write(file, panel, at, run, tick, moment, next, out)
 }
 
 // Hands out what stands next.
 fn hand_out(
     file: &[u8],
-    stop: usize,
+    plan: Plan,
     run: Run,
     tick: Tick,
     moment: Passed,
     memory: &mut [u8],
     out: &mut [u8],
 ) -> Handed
-    requires { ⌜ (Accepted (now file) stop) × (Ready (now file) run (run .next) moment) × (Room (now file) run (now memory))
+    requires { ⌜ (PlanOf (now file) plan) × (Ready (now file) run (run .next) moment) × (Room (now file) run (now memory))
         × (117 ≤ length (now out)) ⌝ }
     ensures { λ r. ⌜ outcome (r .answer) (r .phase) (now (memory .exit)) (now (out .exit))
         ≡ handOut (now (file .entry)) run tick moment (now (memory .entry)) (now (out .entry)) (run .next) ⌝ }
@@ -285,10 +253,11 @@ fn hand_out(
     let next = run.next;
     let first = run.first;
     match next {
-        Position::Start(k) => hand_start(file, run, tick, moment, k, memory, out),
+        Position::Start(k) => hand_start(file, plan, run, tick, moment, k, memory, out),
         Position::Line { stage, frame, row } => {
             hand_line(
                 file,
+                plan,
                 run,
                 tick,
                 moment,
@@ -300,34 +269,34 @@ fn hand_out(
                 out,
             )
         }
-        Position::Stop(k) => hand_stop(file, stop, run, tick, moment, k, memory, out),
+        Position::Stop(k) => hand_stop(file, plan, run, tick, moment, k, memory, out),
     }
 }
 
 // A poll at a moment: the ms still to go until the next thing is due, or that thing.
 fn poll_at(
     file: &[u8],
-    stop: usize,
+    plan: Plan,
     run: Run,
     tick: Tick,
     moment: Passed,
     memory: &mut [u8],
     out: &mut [u8],
 ) -> Handed
-    requires { ⌜ (Accepted (now file) stop) × (Ready (now file) run (run .next) moment) × (Room (now file) run (now memory))
+    requires { ⌜ (PlanOf (now file) plan) × (Ready (now file) run (run .next) moment) × (Room (now file) run (now memory))
         × (117 ≤ length (now out)) ⌝ }
     ensures { λ r. ⌜ outcome (r .answer) (r .phase) (now (memory .exit)) (now (out .exit))
         ≡ pollAt (now (file .entry)) run tick moment (now (memory .entry)) (now (out .entry)) ⌝ }
 {
-    let ms = run::to_go(file, stop, run, moment);
+    let ms = run::to_go(file, plan, run, moment);
     if 0 < ms {
-        let phase = wait_on(run, tick, moment);
+        let phase = run::wait_on(run, tick, moment);
         return Handed {
             answer: Answer::Wait(ms),
             phase,
         };
     }
-    hand_out(file, stop, run, tick, moment, memory, out)
+    hand_out(file, plan, run, tick, moment, memory, out)
 }
 
 // A refused poll leaves the run as it was.
@@ -343,13 +312,13 @@ fn refuse(number: u8, run: Run) -> Handed
 // A poll of a run under way.
 pub fn poll_run(
     file: &[u8],
-    stop: usize,
+    plan: Plan,
     run: Run,
     tick: Tick,
     memory: &mut [u8],
     out: &mut [u8],
 ) -> Handed
-    requires { ⌜ (Accepted (now file) stop) × (Ready (now file) run (run .next) (run .passed)) × (Room (now file) run (now memory)) ⌝ }
+    requires { ⌜ (PlanOf (now file) plan) × (Ready (now file) run (run .next) (run .passed)) × (Room (now file) run (now memory)) ⌝ }
     ensures { λ r. ⌜ outcome (r .answer) (r .phase) (now (memory .exit)) (now (out .exit))
         ≡ pollRun (now (file .entry)) run tick (now (memory .entry)) (now (out .entry)) ⌝ }
 {
@@ -361,6 +330,6 @@ pub fn poll_run(
     let reading = run::read_clock(passed, last, tick);
     match reading {
         Reading::Refused => refuse(10, run),
-        Reading::At(moment) => poll_at(file, stop, run, tick, moment, memory, out),
+        Reading::At(moment) => poll_at(file, plan, run, tick, moment, memory, out),
     }
 }

@@ -1,48 +1,22 @@
-// The lines of a script. Each reader of a word starts at the index behind the word before, and answers the index behind its own:
+// The lines of a script. Each reader of a word starts at the index after the word before, and answers the index after its own:
 // NOWHERE, which no line reaches, where no such word stands there. A reader that starts at NOWHERE answers NOWHERE, so a line is
 // good exactly where its last reader stops at the line's end.
+use session::Command;
+use session::Region;
 ghost use Prim.Native.Nat.{_≤_};
-
-// The most bytes that a script may lend: the slots 0 to 7 of the largest panel, and its bitmap file.
-pub const MEMORY: usize = 46464;
-
-pub const OUTPUT: usize = 6398;
 
 // What a poll is lent where its line does not say.
 const POLLED: usize = 117;
 
 const NOWHERE: usize = usize::MAX;
 
-// What a region upload names.
-pub struct Region {
-    pub slot: u32,
-    pub x: u32,
-    pub y: u32,
-    pub width: u32,
-    pub height: u32,
-}
-
-// A line of a script. `size` is the length of the bytes that its HEX stands for, which are kept beside it.
-pub enum Command {
-    Open { n: u32, size: usize },
-    OpenLent { n: u32, size: usize, lent: usize },
-    Lend(usize),
-    Region(Region, usize),
-    Bitmap { slot: u32, size: usize },
-    Start { slot: u32, tick: u32 },
-    Poll { tick: u32, len: usize },
-    Abandon,
-    Write { slot: u32, len: usize },
-    Malformed,
-}
-
-// A number, and the index behind its word.
+// A number, and the index after its word.
 struct Number {
     value: u32,
     next: usize,
 }
 
-// A length, of memory or of the bytes that a word stands for, and the index behind its word.
+// A length, of memory or of the bytes that a word stands for, and the index after its word.
 struct Extent {
     value: usize,
     next: usize,
@@ -104,7 +78,7 @@ fn begins(line: &[u8], word: &[u8]) -> bool {
     true
 }
 
-// The index behind the space at index `at`.
+// The index after the space at index `at`.
 fn past_space(line: &[u8], at: usize) -> usize {
     if line.len() <= at {
         return NOWHERE;
@@ -227,7 +201,7 @@ fn open(line: &[u8], bytes: &mut [u8]) -> Command {
             size: file.value,
         };
     }
-    let lent = read_length(line, file.next, MEMORY);
+    let lent = read_length(line, file.next, session::MEMORY);
     if lent.next != line.len() {
         return Command::Malformed;
     }
@@ -240,7 +214,7 @@ fn open(line: &[u8], bytes: &mut [u8]) -> Command {
 
 // `lend LEN`
 fn lend(line: &[u8]) -> Command {
-    let lent = read_length(line, 4, MEMORY);
+    let lent = read_length(line, 4, session::MEMORY);
     if lent.next != line.len() {
         return Command::Malformed;
     }
@@ -297,7 +271,7 @@ fn start(line: &[u8]) -> Command {
 // `poll TICK [LEN]`
 fn poll(line: &[u8]) -> Command {
     let tick = read_number(line, 4);
-    let len = length_or(line, tick.next, OUTPUT, POLLED);
+    let len = length_or(line, tick.next, session::OUTPUT, POLLED);
     if len.next != line.len() {
         return Command::Malformed;
     }
@@ -318,7 +292,7 @@ fn abandon(line: &[u8]) -> Command {
 // `write SLOT [LEN]`
 fn write(line: &[u8]) -> Command {
     let slot = read_number(line, 5);
-    let len = length_or(line, slot.next, OUTPUT, OUTPUT);
+    let len = length_or(line, slot.next, session::OUTPUT, session::OUTPUT);
     if len.next != line.len() {
         return Command::Malformed;
     }

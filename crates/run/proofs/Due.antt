@@ -7,10 +7,6 @@ use Prim.Native.Nat.{ℕ, _+_, _-_, _≤_, _<_}
 use native.Mathlib.Omega.{arith}
 use borrow.Author.Tests.{leb-true, leb-false, le-leb, lt-leb, eq-eqb, ne-eqb}
 use lib.Dec.{leb}
-use lib.ListN.{drop, getD}
-use Rattle.settings.specs.Settings.{panelOf, stepsOf, stopCount, stopSteps}
-use Rattle.settings.specs.Facts.{StopAt, Accepted}
-use Rattle.settings.proofs.Sections.{stop-count, stop-steps}
 use Rattle.run.specs.Place.{frameNumber}
 use Rattle.run.specs.Due.{runFrames, frameDue, dueAt, dueOf}
 use Rattle.run.specs.Conditions.{placeValid}
@@ -44,14 +40,3 @@ module _ (file : List ℕ) (run : Run) where
 
   pub due-later : (stage frame row : ℕ) → (row ≡ 0 → ⊥) → dueAt file run (Line stage frame row) ≡ run .handed .0
   due-later stage frame row d = rw (ne-eqb row 0 d)
-
--- the stop steps, as they stand in the file
-module _ {file : List ℕ} {stop : ℕ} (accepted : Accepted file stop) where
-  begins : StopAt file stop
-  begins = let h = accepted .within in record { within = omega arith; rest = accepted .rest }
-
-  pub stops-here : stopCount file ≡ getD file stop 0
-  stops-here = stop-count begins
-
-  pub steps-here : stopSteps file ≡ stepsOf (panelOf file) (getD file stop 0) (drop (stop + 1) file)
-  steps-here = stop-steps begins

@@ -11,9 +11,10 @@ use borrow.Author.Tests.{le-leb, ne-eqb}
 use lib.Dec.{eqb}
 use lib.ListN.{length, drop}
 use Rattle.panel.specs.Panels.{rowsOf}
+use Rattle.panel.proofs.Panels.{size-of}
 use Rattle.settings.specs.Settings.{Step, panelOf, startCount, startSteps, stopCount, stopSteps, settingsGood}
 use Rattle.settings.specs.Steps.{fromWrite}
-use Rattle.settings.proofs.Accepted.{good-panel, length-starts, length-stops}
+use Rattle.settings.proofs.Accepted.{good-panel, length-starts, length-stops, all-starts, all-stops}
 use Rattle.run.specs.Place.{frameNumber, nextPosition}
 use Rattle.run.specs.Due.{runFrames, frameDue, dueOf}
 use Rattle.run.specs.Conditions.{placeValid, runValid}
@@ -23,10 +24,10 @@ use Rattle.run.specs.declared.Passed.{Passed}
 use Rattle.run.specs.declared.Position.{Position}
 use Rattle.run.specs.declared.Position.the-variants.{Start, Line, Stop}
 use Rattle.run.specs.declared.Run.{Run}
-use Rattle.run.proofs.Place.{next-cases, stage-number, end-number, frames-some, rows-some}
+use Rattle.run.proofs.Place.{next-cases, stage-number, end-number}
 use Rattle.run.proofs.Due.{due-here, due-frame, due-later}
 use Rattle.run.proofs.Valid.{valid, placed, start-first, start-later, line-ranged, stop-ranged, valid-start, valid-line}
-use Rattle.run.proofs.Writes.{past-write, all-starts, all-stops}
+use Rattle.run.proofs.Writes.{past-write}
 
 -- a run that was just started
 pub begun-valid : (file : List ℕ) (n slot : ℕ) (tick : Tick) → 1 ≤ slot → slot ≤ n → runValid file n (begun slot tick) ≡ true
@@ -117,8 +118,8 @@ module _ (file : List ℕ) (n : ℕ) (run : Run) (e : runValid file n run ≡ tr
   pub first-line : settingsGood file ≡ true
       → runValid file n (moved run tick moment moment (nextPosition (rowsOf (panelOf file)) (runFrames file) 1 0 0)) ≡ true
   first-line good =
-      let panel = good-panel file good in
-      line-moved moment 1 0 0 (omega arith) (omega arith) (frames-some (panelOf file) panel) (omega (arith, rows-some (panelOf file) panel)) (omega arith)
+      let size = size-of (panelOf file) (good-panel file good) in
+      line-moved moment 1 0 0 (omega arith) (omega arith) (size .frames-some) (size .high) (omega arith)
 
   -- any other line, no earlier than it is due
   pub line-handed : (stage frame row : ℕ) → run .next ≡ Line stage frame row → dueOf file run ≤ moment .0

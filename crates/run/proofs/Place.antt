@@ -7,8 +7,7 @@ use native.Mathlib.Nat.{mul-le-mul-right, suc-mul}
 use native.Mathlib.Omega.{arith}
 use borrow.Author.Tests.{ltb-true, ltb-false, lt-ltb, le-ltb}
 use lib.Dec.{ltb}
-use Rattle.panel.specs.Panels.{framesOf, rowsOf}
-use Rattle.panel.proofs.Panels.{each-panel}
+use Rattle.lists.proofs.Rules.{by-test}
 use Rattle.run.specs.Place.{frameNumber, nextPosition}
 use Rattle.run.specs.declared.Position.{Position}
 use Rattle.run.specs.declared.Position.the-variants.{Line, Stop}
@@ -36,18 +35,7 @@ module _ (h N stage frame row : ℕ) where
   unfolding nextPosition
   next-stop r f s = rw (le-ltb (row + 1) h r, le-ltb (frame + 1) N f, le-ltb stage 4 s)
 
--- each panel has frames
-pub frames-some : (panel : ℕ) → panel < 3 → 0 < framesOf panel
-frames-some = each-panel (λ p. 0 < framesOf p) (omega arith) (omega arith) (omega arith)
-
-pub rows-some : (panel : ℕ) → panel < 3 → 1 < rowsOf panel
-rows-some = each-panel (λ p. 1 < rowsOf p) (omega arith) (omega arith) (omega arith)
-
 -- what comes after a line, by cases
-cond-case : (P : Position → Type 0) (b : Bool) (x y : Position) → (b ≡ true → P x) → (b ≡ false → P y) → P (cond b x y)
-cond-case P true x y f g = f refl
-cond-case P false x y f g = g refl
-
 pub next-cases : (P : Position → Type 0) (h N stage frame row : ℕ)
     → (row + 1 < h → P (Line stage frame (row + 1)))
     → (frame + 1 < N → P (Line stage (frame + 1) 0))
@@ -58,12 +46,12 @@ unfolding nextPosition
 next-cases P h N stage frame row rows frames stages stops =
     let over = cond (ltb stage 4) (Line (stage + 1) 0 0) (Stop 0) in
     let later = cond (ltb (frame + 1) N) (Line stage (frame + 1) 0) over in
-    cond-case P (ltb (row + 1) h) (Line stage frame (row + 1)) later (λ r. rows (ltb-true _ _ r))
+    by-test P (ltb (row + 1) h) (Line stage frame (row + 1)) later (λ r. rows (ltb-true _ _ r))
     (λ r.
-    cond-case P (ltb (frame + 1) N) (Line stage (frame + 1) 0) over (λ f. frames (ltb-true _ _ f))
+    by-test P (ltb (frame + 1) N) (Line stage (frame + 1) 0) over (λ f. frames (ltb-true _ _ f))
     (λ f.
     let last : N ≤ frame + 1 = ltb-false _ _ f in
-    cond-case P (ltb stage 4) (Line (stage + 1) 0 0) (Stop 0) (λ s. stages last (ltb-true _ _ s)) (λ s. stops last (ltb-false _ _ s))))
+    by-test P (ltb stage 4) (Line (stage + 1) 0 0) (Stop 0) (λ s. stages last (ltb-true _ _ s)) (λ s. stops last (ltb-false _ _ s))))
 
 -- the frame after the last one of a stage, and the end of the last frame
 pub stage-number : (N stage frame : ℕ) → 1 ≤ stage → frame + 1 ≡ N → frameNumber N (stage + 1) 0 ≡ frameNumber N stage frame + 1

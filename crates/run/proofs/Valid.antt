@@ -15,7 +15,7 @@ use Rattle.settings.specs.Facts.{kindOf}
 use Rattle.settings.specs.declared.Kind.{Kind}
 use Rattle.run.specs.Place.{frameNumber}
 use Rattle.run.specs.Due.{runFrames, frameDue}
-use Rattle.run.specs.Conditions.{isWrite, afterWrite, startRules, lineRules, stopRules, placeValid, runRules, runValid}
+use Rattle.run.specs.Conditions.{isWrite, afterWrite, startPlaceRules, linePlaceRules, stopPlaceRules, placeValid, runRules, runValid}
 use Rattle.run.specs.Facts.{kindIsWrite, Ready}
 use Rattle.run.specs.declared.Passed.{Passed}
 use Rattle.run.specs.declared.Position.{Position}
@@ -29,7 +29,7 @@ kind-is-write (write r d) = refl
 kind-is-write (wait ms) = refl
 kind-is-write malformed = refl
 
--- step k of n is the one that stands behind the first k
+-- step k of n is the one that stands after the first k
 step-at : (panel k n : ℕ) (s : List ℕ) → k < n → getD (stepsOf panel n s) k malformed ≡ stepOf panel (restOf panel k s)
 step-at panel k zero s h = absurd (omega arith)
 step-at panel zero (suc n) s h = refl
@@ -67,7 +67,7 @@ module _ (file : List ℕ) (run : Run) where
     pub past : 0 < frameNumber (runFrames file) stage frame + row
     pub due : frameDue (run .first .0) (frameNumber (runFrames file) stage frame - cond (eqb row 0) 1 0) ≤ run .handed .0
 
-  -- behind the lines
+  -- after the lines
   pub record AtStop (k : ℕ) : Type 0 where
     pub few : k ≤ stopCount file
     pub after : afterWrite (stopSteps file) k ≡ true
@@ -75,7 +75,7 @@ module _ (file : List ℕ) (run : Run) where
 
   pub at-start : (k : ℕ) → placeValid file run (Start k) ≡ true → AtStart k
   at-start k e =
-      let rule : (j : ℕ) → getD (startRules file run k) j true ≡ true = λ j. holds j (startRules file run k) e in
+      let rule : (j : ℕ) → getD (startPlaceRules file run k) j true ≡ true = λ j. holds j (startPlaceRules file run k) e in
       record {
         few = leb-true _ _ (rule 0);
         after = rule 1;
@@ -84,7 +84,7 @@ module _ (file : List ℕ) (run : Run) where
 
   pub at-line : (stage frame row : ℕ) → placeValid file run (Line stage frame row) ≡ true → AtLine stage frame row
   at-line stage frame row e =
-      let rule : (j : ℕ) → getD (lineRules file run stage frame row) j true ≡ true = λ j. holds j (lineRules file run stage frame row) e in
+      let rule : (j : ℕ) → getD (linePlaceRules file run stage frame row) j true ≡ true = λ j. holds j (linePlaceRules file run stage frame row) e in
       record {
         low = leb-true _ _ (rule 0);
         high = leb-true _ _ (rule 1);
@@ -96,7 +96,7 @@ module _ (file : List ℕ) (run : Run) where
 
   pub at-stop : (k : ℕ) → placeValid file run (Stop k) ≡ true → AtStop k
   at-stop k e =
-      let rule : (j : ℕ) → getD (stopRules file run k) j true ≡ true = λ j. holds j (stopRules file run k) e in
+      let rule : (j : ℕ) → getD (stopPlaceRules file run k) j true ≡ true = λ j. holds j (stopPlaceRules file run k) e in
       record { few = leb-true _ _ (rule 0); after = rule 1; due = leb-true _ _ (rule 2) }
 
   -- the first start step, where all but the moment of the last thing is known, and a later one
@@ -110,7 +110,7 @@ module _ (file : List ℕ) (run : Run) where
       let later : (not (eqb k 0) || eqb (run .handed .0) 0) ≡ true = rw (ne-eqb k 0 d) in
       all-kept (keep (le-leb k (startCount file) few) (keep after (keep later (keep (eq-eqb (run .first .0) 0 unknown) none))))
 
-  -- a line in its range, and a stop step behind a write: the moment of the last thing decides
+  -- a line in its range, and a stop step after a write: the moment of the last thing decides
   pub line-ranged : (stage frame row : ℕ) → 1 ≤ stage → stage ≤ 4 → frame < runFrames file → row < rowsOf (panelOf file)
       → 0 < frameNumber (runFrames file) stage frame + row
       → placeValid file run (Line stage frame row)
@@ -118,7 +118,7 @@ module _ (file : List ℕ) (run : Run) where
   line-ranged stage frame row low high f r past =
       let from = lt-ltb 0 (frameNumber (runFrames file) stage frame + row) past in
       let within = lt-ltb row (rowsOf (panelOf file)) r in
-      decides 5 (lineRules file run stage frame row)
+      decides 5 (linePlaceRules file run stage frame row)
       (keep (le-leb 1 stage low)
       (keep (le-leb stage 4 high)
       (keep (lt-ltb frame (runFrames file) f) (keep within (keep from (keep refl none))))))
@@ -126,7 +126,7 @@ module _ (file : List ℕ) (run : Run) where
   pub stop-ranged : (k : ℕ) → k ≤ stopCount file → afterWrite (stopSteps file) k ≡ true
       → placeValid file run (Stop k) ≡ leb (frameDue (run .first .0) (4 * runFrames file - cond (eqb k 0) 1 0)) (run .handed .0)
   stop-ranged k few after =
-      decides 2 (stopRules file run k) (keep (le-leb k (stopCount file) few) (keep after (keep refl none)))
+      decides 2 (stopPlaceRules file run k) (keep (le-leb k (stopCount file) few) (keep after (keep refl none)))
 
 -- ---- a run
 

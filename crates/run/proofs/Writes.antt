@@ -8,8 +8,7 @@ use native.Mathlib.Omega.{arith}
 use borrow.Author.Tests.{ne-eqb}
 use lib.ListN.{length, getD, drop, length-drop}
 use lib.Seq.{getD-drop}
-use Rattle.lists.proofs.Rules.{holds}
-use Rattle.settings.specs.Settings.{Step, write, wait, malformed, allSteps, startSteps, stopSteps, settingsRules, settingsGood}
+use Rattle.settings.specs.Settings.{Step, write, wait, malformed, allSteps}
 use Rattle.settings.specs.Steps.{fromWrite}
 use Rattle.settings.proofs.Steps.{all-from}
 use Rattle.run.specs.Conditions.{isWrite, afterWrite}
@@ -45,7 +44,7 @@ past-write steps rest step k all found =
     let m = length steps - length rest in
     let i = m - 1 - k in
     let some : length (fromWrite (drop k steps)) ≡ suc (length rest) = ap length found in
-    let behind : k + suc (length rest) ≤ length steps = omega (arith, from-le (drop k steps), length-drop k steps) in
+    let after : k + suc (length rest) ≤ length steps = omega (arith, from-le (drop k steps), length-drop k steps) in
     let later : (m ≡ 0 → ⊥) = λ z. omega arith in
     let there : m - 1 ≡ k + i = omega arith in
     let at : getD steps (m - 1) malformed ≡ step =
@@ -53,12 +52,3 @@ past-write steps rest step k all found =
     ∙ sym (getD-drop k steps i malformed)
     ∙ found-at (drop k steps) rest step i found (omega (arith, length-drop k steps)) in
     (later, rw (ne-eqb m 0 later, at) (found-write (drop k steps) rest step (all-from k steps all) found))
-
--- every step of an accepted file is a step
-pub all-starts : (file : List ℕ) → settingsGood file ≡ true → allSteps (startSteps file) ≡ true
-unfolding settingsGood
-all-starts file good = holds 5 (settingsRules file) good
-
-pub all-stops : (file : List ℕ) → settingsGood file ≡ true → allSteps (stopSteps file) ≡ true
-unfolding settingsGood
-all-stops file good = holds 10 (settingsRules file) good

@@ -25,8 +25,8 @@ abbrev pub afterWrite : (steps : List Step) (k : ℕ) → Bool
 afterWrite steps k = eqb k 0 || isWrite (getD steps (k - 1) malformed)
 
 -- before the first line: nothing was handed out yet at the first step, and F is not known
-abbrev pub startRules : (file : List ℕ) (run : Run) (k : ℕ) → List Bool
-startRules file run k =
+abbrev pub startPlaceRules : (file : List ℕ) (run : Run) (k : ℕ) → List Bool
+startPlaceRules file run k =
     leb k (startCount file)
     ∷ afterWrite (startSteps file) k
     ∷ (not (eqb k 0) || eqb (run .handed .0) 0)
@@ -34,8 +34,8 @@ startRules file run k =
     ∷ []
 
 -- among the lines, and past the very first one: the line before this one went out no earlier than its frame was due
-abbrev pub lineRules : (file : List ℕ) (run : Run) (stage frame row : ℕ) → List Bool
-lineRules file run stage frame row =
+abbrev pub linePlaceRules : (file : List ℕ) (run : Run) (stage frame row : ℕ) → List Bool
+linePlaceRules file run stage frame row =
     leb 1 stage
     ∷ leb stage 4
     ∷ ltb frame (runFrames file)
@@ -44,18 +44,18 @@ lineRules file run stage frame row =
     ∷ leb (frameDue (run .first .0) (frameNumber (runFrames file) stage frame - cond (eqb row 0) 1 0)) (run .handed .0)
     ∷ []
 
--- behind the lines: the last line went out no earlier than its frame was due, and a stop write not before the end of the last frame
-abbrev pub stopRules : (file : List ℕ) (run : Run) (k : ℕ) → List Bool
-stopRules file run k =
+-- after the lines: the last line went out no earlier than its frame was due, and a stop write not before the end of the last frame
+abbrev pub stopPlaceRules : (file : List ℕ) (run : Run) (k : ℕ) → List Bool
+stopPlaceRules file run k =
     leb k (stopCount file)
     ∷ afterWrite (stopSteps file) k
     ∷ leb (frameDue (run .first .0) (4 * runFrames file - cond (eqb k 0) 1 0)) (run .handed .0)
     ∷ []
 
 abbrev pub placeValid : (file : List ℕ) (run : Run) → Position → Bool
-placeValid file run (Start k) = every (startRules file run k)
-placeValid file run (Line stage frame row) = every (lineRules file run stage frame row)
-placeValid file run (Stop k) = every (stopRules file run k)
+placeValid file run (Start k) = every (startPlaceRules file run k)
+placeValid file run (Line stage frame row) = every (linePlaceRules file run stage frame row)
+placeValid file run (Stop k) = every (stopPlaceRules file run k)
 
 -- its slot is one of 1 to n, what was handed out was so by now, and its place is valid
 abbrev pub runRules : (file : List ℕ) (n : ℕ) (run : Run) → List Bool

@@ -5,15 +5,18 @@ ghost use mathlib.Core.Bool.{true};
 ghost use lib.ListN.{length, drop};
 ghost use mathlib.Core.Bool.{cond};
 ghost use lib.Dec.{eqb, leb};
-ghost use Rattle.settings.specs.Settings.{stepsOf, panelOf, settingsGood};
+ghost use Rattle.settings.specs.Settings.{stepsOf};
 ghost use Rattle.settings.specs.Steps.{waitsBefore};
 ghost use Rattle.run.specs.Clock.{stepFrom, readingOf};
 ghost use Rattle.run.specs.Place.{frameNumber, nextPosition};
-ghost use Rattle.run.specs.Due.{runFrames, frameDue, dueAt, dueOf};
+ghost use Rattle.run.specs.Due.{frameDue, dueAt, dueOf};
 ghost use Rattle.run.specs.Conditions.{afterWrite, placeValid, runValid};
+ghost use Rattle.run.specs.Runs.{begun, waited, moved};
 ghost use Rattle.run.specs.Facts.{kindIsWrite, Ready};
-ghost use Rattle.settings.specs.Facts.{Accepted};
+ghost use Rattle.settings.specs.Plans.{SectionIn, PlanOf};
 use settings::Kind;
+use settings::Plan;
+use settings::Section;
 
 // A tick reading: a millisecond counter that wraps.
 pub struct Tick(pub u32);
@@ -21,8 +24,8 @@ pub struct Tick(pub u32);
 // Passed time of a run in milliseconds, which does not wrap.
 pub struct Passed(pub u64);
 
-// What is handed out next: the next write from start step k on, or behind the start steps the first line; a line; or the next
-// write from stop step k on, or behind the stop steps done.
+// What is handed out next: the next write from start step k on, or after the start steps the first line; a line; or the next
+// write from stop step k on, or after the stop steps done.
 pub enum Position {
     Start(u32),
     Line { stage: u32, frame: u32, row: u32 },
@@ -42,6 +45,62 @@ pub struct Run {
     pub first: Passed,
     pub next: Position,
 }
+
+// Where a store stands: no run is under way, a run was abandoned, or one is under way.
+pub enum Phase {
+    Idle,
+    Abandoned,
+    Running(Run),
+}
+
+// ---- the run after each thing that a call can do to it
+
+// A run that has just been started.
+pub fn begin(slot: u32, tick: Tick) -> Run
+    ensures { λ r. ⌜ r ≡ begun slot tick ⌝ }
+{
+    Run {
+        slot,
+        last: tick,
+        passed: Passed(0),
+        handed: Passed(0),
+        first: Passed(0),
+        next: Position::Start(0),
+    }
+}
+
+// After something was handed out at a moment.
+pub fn go_on(run: Run, tick: Tick, moment: Passed, first: Passed, next: Position) -> Phase
+    ensures { λ r. ⌜ r ≡ Phase.Running (moved run tick moment first next) ⌝ }
+{
+    Phase::Running(Run {
+        slot: run.slot,
+        last: tick,
+        passed: moment,
+        handed: moment,
+        first,
+        next,
+    })
+}
+
+// After a wait answer.
+pub fn wait_on(run: Run, tick: Tick, moment: Passed) -> Phase
+    ensures { λ r. ⌜ r ≡ Phase.Running (waited run tick moment) ⌝ }
+{
+    let handed = run.handed;
+    let first = run.first;
+    let next = run.next;
+    Phase::Running(Run {
+        slot: run.slot,
+        last: tick,
+        passed: moment,
+        handed,
+        first,
+        next,
+    })
+}
+
+// ---- tick readings
 
 // A poll's step: its reading minus the last accepted one, modulo 2^32.
 fn step_from(last: Tick, tick: Tick) -> u32
@@ -101,14 +160,6 @@ pub fn next_position(rows: u32, frames: u32, stage: u32, frame: u32, row: u32) -
 
 // ---- when the next thing is due
 
-// N, the frames per stage of a run with this settings file.
-pub fn run_frames(file: &[u8]) -> u32
-    requires { ⌜ settingsGood (now file) ≡ true ⌝ }
-    ensures { λ r. ⌜ (r ≡ runFrames (now (file .entry))) × (r ≤ 21) ⌝ }
-{
-    panel::frames(settings::panel_of(file))
-}
-
 // The number of a frame, counted over the whole run.
 fn frame_number(frames: u32, stage: u32, frame: u32) -> u32
     requires { ⌜ (1 ≤ stage) × (stage ≤ 4) × (frame < frames) × (frames ≤ 21) ⌝ }
@@ -129,47 +180,57 @@ fn remaining(from: Passed, ms: u32, moment: Passed) -> u32
     ms - (gone as u32)
 }
 
-// The ms of the waits before the next write from step k of n on; the steps stand from index `at` on.
-fn waits_from(file: &[u8], at: usize, n: usize, k: u32) -> u32
-    requires { ⌜ (settingsGood (now file) ≡ true) × (at ≤ length (now file)) × (n ≤ 32) × (k ≤ n) ⌝ }
-    ensures { λ r. ⌜ (r ≡ waitsBefore (drop k (stepsOf (panelOf (now (file .entry))) n (drop at (now (file .entry)))))) × (r < 2 ^ 24) ⌝ }
+// The ms of the waits before the next write from step k of a section on.
+fn waits_from(file: &[u8], panel: usize, section: Section, k: u32) -> u32
+    requires { ⌜ (SectionIn panel (now file) section) × (k ≤ section .count) ⌝ }
+    ensures { λ r. ⌜ (r ≡ waitsBefore (drop k (stepsOf panel (section .count) (drop (section .at) (now (file .entry)))))) × (r < 2 ^ 24) ⌝ }
 {
-    let found = settings::next_write_from(file, settings::panel_of(file), at, n, k as usize);
+    let found = settings::next_write_from(file, panel, section.at, section.count, k as usize);
     found.waits
 }
 
 // From start step k on: the waits count from what was handed out last.
-fn start_to_go(file: &[u8], run: Run, k: u32, moment: Passed) -> u32
-    requires { ⌜ (settingsGood (now file) ≡ true) × (Ready (now file) run (Position.Start k) moment) ⌝ }
+fn start_to_go(file: &[u8], plan: Plan, run: Run, k: u32, moment: Passed) -> u32
+    requires { ⌜ (PlanOf (now file) plan) × (Ready (now file) run (Position.Start k) moment) ⌝ }
     ensures { λ r. ⌜ r ≡ dueAt (now (file .entry)) run (Position.Start k) - moment .0 ⌝ }
 {
     let from = run.handed;
-    let waits = waits_from(file, 3, file[2] as usize, k);
+    let section = plan.start;
+    let waits = waits_from(file, plan.panel, section, k);
     remaining(from, waits, moment)
 }
 
 // At a line: the first of a frame waits for its moment.
-fn line_to_go(file: &[u8], run: Run, stage: u32, frame: u32, row: u32, moment: Passed) -> u32
-    requires { ⌜ (settingsGood (now file) ≡ true) × (Ready (now file) run (Position.Line stage frame row) moment) ⌝ }
+fn line_to_go(
+    file: &[u8],
+    plan: Plan,
+    run: Run,
+    stage: u32,
+    frame: u32,
+    row: u32,
+    moment: Passed,
+) -> u32
+    requires { ⌜ (PlanOf (now file) plan) × (Ready (now file) run (Position.Line stage frame row) moment) ⌝ }
     ensures { λ r. ⌜ r ≡ dueAt (now (file .entry)) run (Position.Line stage frame row) - moment .0 ⌝ }
 {
     if row == 0 {
         let from = run.first;
-        let i = frame_number(run_frames(file), stage, frame);
+        let i = frame_number(plan.shape.frames, stage, frame);
         return remaining(from, 30 * i, moment);
     }
     0
 }
 
 // From stop step k on: the waits count from the end of the last frame and from what was handed out last.
-fn stop_to_go(file: &[u8], stop: usize, run: Run, k: u32, moment: Passed) -> u32
-    requires { ⌜ (Accepted (now file) stop) × (Ready (now file) run (Position.Stop k) moment) ⌝ }
+fn stop_to_go(file: &[u8], plan: Plan, run: Run, k: u32, moment: Passed) -> u32
+    requires { ⌜ (PlanOf (now file) plan) × (Ready (now file) run (Position.Stop k) moment) ⌝ }
     ensures { λ r. ⌜ r ≡ dueAt (now (file .entry)) run (Position.Stop k) - moment .0 ⌝ }
 {
     let handed = run.handed;
     let first = run.first;
-    let waits = waits_from(file, stop + 1, file[stop] as usize, k);
-    let by_frames = remaining(first, 120 * run_frames(file) + waits, moment);
+    let section = plan.stop;
+    let waits = waits_from(file, plan.panel, section, k);
+    let by_frames = remaining(first, 120 * plan.shape.frames + waits, moment);
     let by_handed = remaining(handed, waits, moment);
     if by_frames < by_handed {
         return by_handed;
@@ -178,15 +239,23 @@ fn stop_to_go(file: &[u8], stop: usize, run: Run, k: u32, moment: Passed) -> u32
 }
 
 // The ms still to go at a moment until the next thing is due; 0 where it is due.
-pub fn to_go(file: &[u8], stop: usize, run: Run, moment: Passed) -> u32
-    requires { ⌜ (Accepted (now file) stop) × (Ready (now file) run (run .next) moment) ⌝ }
+pub fn to_go(file: &[u8], plan: Plan, run: Run, moment: Passed) -> u32
+    requires { ⌜ (PlanOf (now file) plan) × (Ready (now file) run (run .next) moment) ⌝ }
     ensures { λ r. ⌜ r ≡ dueOf (now (file .entry)) run - moment .0 ⌝ }
 {
     let next = run.next;
     match next {
-        Position::Start(k) => start_to_go(file, run, k, moment),
-        Position::Line { stage, frame, row } => line_to_go(file, run, stage, frame, row, moment),
-        Position::Stop(k) => stop_to_go(file, stop, run, k, moment),
+        Position::Start(k) => start_to_go(file, plan, run, k, moment),
+        Position::Line { stage, frame, row } => line_to_go(
+            file,
+            plan,
+            run,
+            stage,
+            frame,
+            row,
+            moment,
+        ),
+        Position::Stop(k) => stop_to_go(file, plan, run, k, moment),
     }
 }
 
@@ -202,16 +271,15 @@ fn is_write(kind: Kind) -> bool
     }
 }
 
-// Whether step k of n is the first one, or stands right after a write; the steps stand from index `at` on.
-fn after_write(file: &[u8], at: usize, n: usize, k: u32) -> bool
-    requires { ⌜ (settingsGood (now file) ≡ true) × (at ≤ length (now file)) × (k ≤ n) ⌝ }
-    ensures { λ r. ⌜ r ≡ afterWrite (stepsOf (panelOf (now (file .entry))) n (drop at (now (file .entry)))) k ⌝ }
+// Whether step k of a section is the first one, or stands right after a write.
+fn after_write(file: &[u8], panel: usize, section: Section, k: u32) -> bool
+    requires { ⌜ (SectionIn panel (now file) section) × (k ≤ section .count) ⌝ }
+    ensures { λ r. ⌜ r ≡ afterWrite (stepsOf panel (section .count) (drop (section .at) (now (file .entry)))) k ⌝ }
 {
     if k == 0 {
         return true;
     }
-    let panel = settings::panel_of(file);
-    let passed = settings::pass_steps(file, panel, at, (k - 1) as usize);
+    let passed = settings::pass_steps(file, panel, section.at, (k - 1) as usize);
     let end = passed.end;
     is_write(settings::step_at(file, end, panel))
 }
@@ -238,15 +306,15 @@ fn frame_before(i: u32, number: u32) -> u32
     i
 }
 
-fn start_valid(file: &[u8], run: Run, k: u32) -> bool
-    requires { ⌜ settingsGood (now file) ≡ true ⌝ }
+fn start_valid(file: &[u8], plan: Plan, run: Run, k: u32) -> bool
+    requires { ⌜ PlanOf (now file) plan ⌝ }
     ensures { λ r. ⌜ r ≡ placeValid (now (file .entry)) run (Position.Start k) ⌝ }
 {
-    let n = file[2] as usize;
-    if n < k as usize {
+    let section = plan.start;
+    if section.count < k as usize {
         return false;
     }
-    if !after_write(file, 3, n, k) {
+    if !after_write(file, plan.panel, section, k) {
         return false;
     }
     if run.first.0 != 0 {
@@ -258,63 +326,62 @@ fn start_valid(file: &[u8], run: Run, k: u32) -> bool
     true
 }
 
-fn line_valid(file: &[u8], run: Run, stage: u32, frame: u32, row: u32) -> bool
-    requires { ⌜ settingsGood (now file) ≡ true ⌝ }
+fn line_valid(file: &[u8], plan: Plan, run: Run, stage: u32, frame: u32, row: u32) -> bool
+    requires { ⌜ PlanOf (now file) plan ⌝ }
     ensures { λ r. ⌜ r ≡ placeValid (now (file .entry)) run (Position.Line stage frame row) ⌝ }
 {
     let first = run.first;
     let handed = run.handed;
-    let frames = run_frames(file);
     if stage < 1 {
         return false;
     }
     if 4 < stage {
         return false;
     }
-    if frames <= frame {
+    if plan.shape.frames <= frame {
         return false;
     }
-    if panel::rows(settings::panel_of(file)) <= row as usize {
+    if plan.shape.rows <= row as usize {
         return false;
     }
-    let i = frame_number(frames, stage, frame);
+    let i = frame_number(plan.shape.frames, stage, frame);
     if i + row == 0 {
         return false;
     }
     frame_due_by(first, frame_before(i, row), handed)
 }
 
-fn stop_valid(file: &[u8], stop: usize, run: Run, k: u32) -> bool
-    requires { ⌜ Accepted (now file) stop ⌝ }
+fn stop_valid(file: &[u8], plan: Plan, run: Run, k: u32) -> bool
+    requires { ⌜ PlanOf (now file) plan ⌝ }
     ensures { λ r. ⌜ r ≡ placeValid (now (file .entry)) run (Position.Stop k) ⌝ }
 {
     let first = run.first;
     let handed = run.handed;
-    let n = file[stop] as usize;
-    if n < k as usize {
+    let section = plan.stop;
+    if section.count < k as usize {
         return false;
     }
-    if !after_write(file, stop + 1, n, k) {
+    if !after_write(file, plan.panel, section, k) {
         return false;
     }
-    frame_due_by(first, frame_before(4 * run_frames(file), k), handed)
+    frame_due_by(first, frame_before(4 * plan.shape.frames, k), handed)
 }
 
-fn place_valid(file: &[u8], stop: usize, run: Run) -> bool
-    requires { ⌜ Accepted (now file) stop ⌝ }
+fn place_valid(file: &[u8], plan: Plan, run: Run) -> bool
+    requires { ⌜ PlanOf (now file) plan ⌝ }
     ensures { λ r. ⌜ r ≡ placeValid (now (file .entry)) run (run .next) ⌝ }
 {
     let next = run.next;
     match next {
-        Position::Start(k) => start_valid(file, run, k),
-        Position::Line { stage, frame, row } => line_valid(file, run, stage, frame, row),
-        Position::Stop(k) => stop_valid(file, stop, run, k),
+        Position::Start(k) => start_valid(file, plan, run, k),
+        Position::Line { stage, frame, row } => line_valid(file, plan, run, stage, frame, row),
+        Position::Stop(k) => stop_valid(file, plan, run, k),
     }
 }
 
 // Whether a run keeps the conditions, where there are slots 1 to `slots`.
-pub fn run_valid(file: &[u8], stop: usize, slots: u32, run: Run) -> bool
-    requires { ⌜ Accepted (now file) stop ⌝ }
+pub fn run_valid(file: &[u8], plan: Plan, slots: u32, run: Run) -> bool
+    requires { ⌜ PlanOf (now file) plan ⌝ }
     ensures { λ r. ⌜ r ≡ runValid (now (file .entry)) slots run ⌝ }
 {
     if run.slot < 1 {
@@ -326,5 +393,5 @@ pub fn run_valid(file: &[u8], stop: usize, slots: u32, run: Run) -> bool
     if run.passed.0 < run.handed.0 {
         return false;
     }
-    place_valid(file, stop, run)
+    place_valid(file, plan, run)
 }

@@ -11,7 +11,7 @@ use lib.ListN.{length, getD, drop, length-drop}
 use Rattle.lists.proofs.Rules.{holds, either}
 use Rattle.panel.specs.Registers.{dataLength}
 use Rattle.panel.proofs.Registers.{data-length-le}
-use Rattle.settings.specs.Settings.{Step, write, wait, malformed, stepOf, sizeOf, stepsOf, restOf, isWriteTo, writesTo, longestFile, panelOf, startCount, startSteps, stopSection, stopCount, stopSteps, endOf, settingsRules, settingsGood}
+use Rattle.settings.specs.Settings.{Step, write, wait, malformed, stepOf, sizeOf, stepsOf, restOf, allSteps, isWriteTo, writesTo, longestFile, panelOf, startCount, startSteps, stopSection, stopCount, stopSteps, endOf, settingsRules, settingsGood}
 use Rattle.settings.proofs.Steps.{length-steps}
 
 -- ---- how long steps are
@@ -65,6 +65,13 @@ module _ (file : List ℕ) (good : settingsGood file ≡ true) where
 
   pub good-stops : stopCount file ≤ 32
   good-stops = leb-true _ _ (kept 9)
+
+  -- every step is one
+  pub all-starts : allSteps (startSteps file) ≡ true
+  all-starts = kept 5
+
+  pub all-stops : allSteps (stopSteps file) ≡ true
+  all-stops = kept 10
 
   -- the counts are those of the steps
   pub length-starts : length (startSteps file) ≡ startCount file

@@ -13,8 +13,8 @@ use lib.ListN.{length, getD, drop, length-drop}
 use lib.Seq.{drop-drop, getD-drop}
 use Rattle.lists.specs.Rules.{every}
 use Rattle.lists.proofs.Rules.{broken, holds, none, keep, all-kept, every-parts, others}
-use Rattle.settings.specs.Settings.{stepsOf, restOf, allSteps, panelOf, startCount, stopSection, stopCount, stopSteps, endOf, settingsRules, settingsGood}
-use Rattle.settings.specs.Facts.{headRules, startRules, stopRules, Readable, StopAt, StepsPassed, StartPassed, LaidOut}
+use Rattle.settings.specs.Settings.{stepsOf, restOf, allSteps, panelOf, startCount, stopSection, stopCount, stopSteps, endOf, headRules, startStepRules, stopSectionRules, settingsRules, settingsGood}
+use Rattle.settings.specs.Facts.{Readable, StopAt, StepsPassed, StartPassed, LaidOut}
 use Rattle.settings.specs.declared.StepsEnd.{StepsEnd}
 
 -- ---- the first rules
@@ -25,8 +25,8 @@ readable file e =
 
 -- ---- the start steps
 
-pub start-refused : {file : List ℕ} (k : ℕ) → getD (startRules file) k true ≡ false → StartPassed file (record { ok = false; stop = 0 })
-start-refused {file} k e = record { good = sym (broken k (startRules file) e); stop = λ t. absurd (false≢true t) }
+pub start-refused : {file : List ℕ} (k : ℕ) → getD (startStepRules file) k true ≡ false → StartPassed file (record { ok = false; stop = 0 })
+start-refused {file} k e = record { good = sym (broken k (startStepRules file) e); stop = λ t. absurd (false≢true t) }
 
 pub start-passed : {file : List ℕ} {r : StepsEnd} → StepsPassed (panelOf file) (startCount file) 3 file r → r .ok ≡ true
     → r .channels ≡ true → r .level ≡ true → StartPassed file (record { ok = true; stop = r .end })
@@ -55,15 +55,15 @@ module _ {file : List ℕ} {stop : ℕ} (begins : StopAt file stop) where
   stop-end : endOf file ≡ restOf (panelOf file) (getD file stop 0) (drop (stop + 1) file)
   stop-end = rw (stop-count, stop-more)
 
-  pub no-section : length file ≤ stop → every (stopRules file) ≡ false
-  no-section h = broken 0 (stopRules file) (le-ltb 0 (length (stopSection file)) (omega (arith, stop-length)))
+  pub no-section : length file ≤ stop → every (stopSectionRules file) ≡ false
+  no-section h = broken 0 (stopSectionRules file) (le-ltb 0 (length (stopSection file)) (omega (arith, stop-length)))
 
-  pub many-stops : 32 < getD file stop 0 → every (stopRules file) ≡ false
-  many-stops h = broken 1 (stopRules file) (lt-leb (stopCount file) 32 (omega (arith, stop-count)))
+  pub many-stops : 32 < getD file stop 0 → every (stopSectionRules file) ≡ false
+  many-stops h = broken 1 (stopSectionRules file) (lt-leb (stopCount file) 32 (omega (arith, stop-count)))
 
   module _ {r : StepsEnd} (passed : StepsPassed (panelOf file) (getD file stop 0) (stop + 1) file r) where
-    pub bad-stop : r .ok ≡ false → every (stopRules file) ≡ false
-    bad-stop e = broken 2 (stopRules file) (ap allSteps stop-steps ∙ sym (passed .good) ∙ e)
+    pub bad-stop : r .ok ≡ false → every (stopSectionRules file) ≡ false
+    bad-stop e = broken 2 (stopSectionRules file) (ap allSteps stop-steps ∙ sym (passed .good) ∙ e)
 
     end-length : length (endOf file) ≡ length file - r .end
     end-length = ap length (stop-end ∙ sym (passed .rest)) ∙ length-drop (r .end) file
@@ -76,19 +76,19 @@ module _ {file : List ℕ} {stop : ℕ} (begins : StopAt file stop) where
           | no d ↦ ne-eqb _ _ d ∙ sym (ne-eqb (length (endOf file)) 0 (λ z. d (omega (arith, end-length))))
         ]
 
-    pub stop-rules : stop < length file → getD file stop 0 ≤ 32 → r .ok ≡ true → eqb (r .end) (length file) ≡ every (stopRules file)
+    pub stop-rules : stop < length file → getD file stop 0 ≤ 32 → r .ok ≡ true → eqb (r .end) (length file) ≡ every (stopSectionRules file)
     stop-rules h n ok =
         let some : ltb 0 (length (stopSection file)) ≡ true = lt-ltb 0 (length (stopSection file)) (omega (arith, stop-length)) in
         let few : leb (stopCount file) 32 ≡ true = le-leb (stopCount file) 32 (omega (arith, stop-count)) in
         let good : allSteps (stopSteps file) ≡ true = ap allSteps stop-steps ∙ sym (passed .good) ∙ ok in
         at-end
         ∙ sym (and-true (eqb (length (endOf file)) 0))
-        ∙ sym (others 3 (stopRules file) (keep some (keep few (keep good none))))
+        ∙ sym (others 3 (stopSectionRules file) (keep some (keep few (keep good none))))
 
 -- ---- the whole file
 
 module _ (file : List ℕ) where
-  good-parts : settingsGood file ≡ (every (headRules file) && (every (startRules file) && every (stopRules file)))
+  good-parts : settingsGood file ≡ (every (headRules file) && (every (startStepRules file) && every (stopSectionRules file)))
   unfolding settingsGood
   good-parts =
       every-parts 5 (settingsRules file)
@@ -100,17 +100,17 @@ module _ (file : List ℕ) where
   pub head-broken : every (headRules file) ≡ false → LaidOut file (record { ok = false; stop = 0 })
   head-broken e = refused (good-parts ∙ rw e)
 
-  pub start-broken : every (startRules file) ≡ false → LaidOut file (record { ok = false; stop = 0 })
+  pub start-broken : every (startStepRules file) ≡ false → LaidOut file (record { ok = false; stop = 0 })
   start-broken e = refused (good-parts ∙ rw (e, and-false))
 
-  pub stop-broken : every (stopRules file) ≡ false → LaidOut file (record { ok = false; stop = 0 })
+  pub stop-broken : every (stopSectionRules file) ≡ false → LaidOut file (record { ok = false; stop = 0 })
   stop-broken e = refused (good-parts ∙ rw (e, and-false, and-false))
 
   pub laid-out : {stop : ℕ} → StopAt file stop
-      → every (headRules file) ≡ true → every (startRules file) ≡ true → every (stopRules file) ≡ true
+      → every (headRules file) ≡ true → every (startStepRules file) ≡ true → every (stopSectionRules file) ≡ true
       → LaidOut file (record { ok = true; stop = stop })
   laid-out begins head start rest =
-      let some : 0 < length (stopSection file) = ltb-true _ _ (holds 0 (stopRules file) rest) in
+      let some : 0 < length (stopSection file) = ltb-true _ _ (holds 0 (stopSectionRules file) rest) in
       let good : settingsGood file ≡ true = good-parts ∙ rw (head, start, rest) in
       record {
         good = sym good;

@@ -9,20 +9,17 @@ use native.Mathlib.Numerals.{sub-one}
 use native.Mathlib.Omega.{arith}
 use borrow.Author.Tests.{leb-true, ltb-true}
 use lib.Dec.{eqb, leb, ltb}
-use lib.ListN.{length, getD, take, drop, length-drop}
+use lib.ListN.{length, getD, take, drop, length-take, length-drop}
 use lib.Seq.{drop-drop}
-use Rattle.lists.proofs.Rules.{and-left, and-right}
+use Rattle.lists.proofs.Rules.{and-left, and-right, by-test}
 use Rattle.panel.specs.Registers.{dataLength}
+use Rattle.panel.proofs.Registers.{data-length-le}
 use Rattle.settings.specs.Settings.{Step, write, wait, malformed, hasPrefix, requiredData, writeOf, waitOf, stepOf, sizeOf, stepsOf, restOf, isStep, allSteps, isWriteTo, writesTo}
 use Rattle.settings.specs.Facts.{kindOf, kindSize, kindWritesTo}
 use Rattle.settings.specs.declared.Kind.{Kind}
 use Rattle.settings.specs.declared.Kind.the-variants.{Write, Wait}
 
 -- ---- what a step can be
-
-cond-case : (P : Step → Type 0) (b : Bool) (x y : Step) → (b ≡ true → P x) → P y → P (cond b x y)
-cond-case P true x y f g = f refl
-cond-case P false x y f g = g
 
 -- the step that s begins with is a write with its data, a wait of 1 to 1,000 ms, or malformed
 pub step-cases : (panel : ℕ) (s : List ℕ) (P : Step → Type 0)
@@ -40,25 +37,26 @@ step-cases panel s P ifWrite ifWait none =
     let good = hasPrefix (drop 2 s) (requiredData panel r) in
     let writes = cond (ltb 0 n && within && good) (write r (take n (drop 2 s))) malformed in
     let waits = cond (eqb tag 0x44) (cond (leb 1 ms && leb ms 1000) (wait ms) malformed) malformed in
-    cond-case P (leb 3 (length s)) (cond (eqb tag 0x57) writes waits) malformed
+    by-test P (leb 3 (length s)) (cond (eqb tag 0x57) writes waits) malformed
     (λ e.
     let long : 3 ≤ length s = leb-true _ _ e in
-    cond-case P (eqb tag 0x57) writes waits
+    by-test P (eqb tag 0x57) writes waits
     (λ t.
-    cond-case P (ltb 0 n && within && good) (write r (take n (drop 2 s))) malformed
+    by-test P (ltb 0 n && within && good) (write r (take n (drop 2 s))) malformed
     (λ q.
     let both = and-left (ltb 0 n && within) good q in
     let fits : n ≤ length (drop 2 s) = leb-true _ _ (and-right (ltb 0 n) within both) in
     ifWrite r n refl (ltb-true _ _ (and-left (ltb 0 n) within both)) (omega (arith, length-drop 2 s)))
-    none)
-    (cond-case P (eqb tag 0x44) (cond (leb 1 ms && leb ms 1000) (wait ms) malformed) malformed
+    (λ q. none))
     (λ t.
-    cond-case P (leb 1 ms && leb ms 1000) (wait ms) malformed
+    by-test P (eqb tag 0x44) (cond (leb 1 ms && leb ms 1000) (wait ms) malformed) malformed
+    (λ u.
+    by-test P (leb 1 ms && leb ms 1000) (wait ms) malformed
     (λ q.
     ifWait ms long (leb-true _ _ (and-left (leb 1 ms) (leb ms 1000) q)) (leb-true _ _ (and-right (leb 1 ms) (leb ms 1000) q)))
-    none)
-    none))
-    none
+    (λ q. none))
+    (λ u. none)))
+    (λ e. none)
 
 -- it lies within s
 pub size-fits : (panel : ℕ) (s : List ℕ) → sizeOf (stepOf panel s) ≤ length s
@@ -102,6 +100,21 @@ write-fits panel file at register e h =
     rw (step-write panel register (drop at file) e) at (size-fits panel (drop at file)) in
     omega (arith, fits, length-drop at file)
 
+-- and its data stand from index `at` + 2 on
+pub write-data : (panel : ℕ) (file : List ℕ) (at register : ℕ) → kindOf (stepOf panel (drop at file)) ≡ Write register
+    → (n : ℕ) → n ≡ dataLength register → stepOf panel (drop at file) ≡ write register (take n (drop (at + 2) file))
+write-data panel file at register e n d = step-write panel register (drop at file) e ∙ rw (d, drop-drop 2 at file)
+
+-- which are at most eight bytes
+pub data-short : (panel : ℕ) (s : List ℕ) {register : ℕ} {bytes : List ℕ} → stepOf panel s ≡ write register bytes → length bytes ≤ 8
+data-short panel s {register} {bytes} =
+    step-cases panel s (λ step. step ≡ write register bytes → length bytes ≤ 8)
+    (λ r n e some h q.
+    let same : take n (drop 2 s) ≡ bytes = cc in
+    rw (← same) (omega (arith, length-take n (drop 2 s), data-length-le r)))
+    (λ ms h low high q. absurd (let z : _≡_ {A = ℕ} 0 1 = cc in omega arith))
+    (λ q. absurd (let z : _≡_ {A = ℕ} 0 1 = cc in omega arith))
+
 size-none : (step : Step) → sizeOf step ≡ 0 → isStep step ≡ false
 size-none (write r d) e = absurd (let z : 2 + dataLength r ≡ 0 = e in omega arith)
 size-none (wait ms) e = absurd (let z : _≡_ {A = ℕ} 3 0 = e in omega arith)
@@ -143,6 +156,11 @@ pub record Turn (panel : ℕ) (file : List ℕ) (at n : ℕ) (kind : Kind) (z : 
   pub read : kind ≡ kindOf (stepOf panel (drop at file))
   pub size : z ≡ kindSize kind
 
+-- the step that was read stands at the index where the first one does
+pub one-step : (panel : ℕ) (file : List ℕ) {at end : ℕ} {kind : Kind} → kind ≡ kindOf (stepOf panel (drop end file)) → end ≡ at
+    → kind ≡ kindOf (stepOf panel (drop at file))
+one-step panel file e f = e ∙ ap (λ (i : ℕ). kindOf (stepOf panel (drop i file))) f
+
 module _ {panel : ℕ} {file : List ℕ} {at n : ℕ} {kind : Kind} {z : ℕ} (turn : Turn panel file at n kind z) where
   pub sized : z ≡ sizeOf (stepOf panel (drop at file))
   sized = turn .size ∙ ap kindSize (turn .read) ∙ kind-size (stepOf panel (drop at file))
@@ -165,12 +183,12 @@ module _ {panel : ℕ} {file : List ℕ} {at n : ℕ} {kind : Kind} {z : ℕ} (t
   pub stuck-rest : z ≡ 0 → restOf panel n (drop at file) ≡ drop at file
   stuck-rest h = rest-stuck panel n (drop at file) (sym sized ∙ h)
 
-  -- a register is written up to this step or behind it just when it was written before or is by one of the n steps
+  -- a register is written up to this step or after it just when it was written before or is by one of the n steps
   pub next-writes : (register : ℕ) (before : Bool) {so-far : Bool} → so-far ≡ (before || kindWritesTo register kind)
       → (so-far || writesTo register (stepsOf panel (n - 1) (drop (at + z) file))) ≡ (before || writesTo register (stepsOf panel n (drop at file)))
   next-writes register before e = rw (e, turn .read, kind-writes-to, or-assoc, next-steps)
 
--- where all are steps, so are those behind the first k
+-- where all are steps, so are those after the first k
 pub all-from : (k : ℕ) (steps : List Step) → allSteps steps ≡ true → allSteps (drop k steps) ≡ true
 all-from zero steps e = e
 all-from (suc k) [] e = e

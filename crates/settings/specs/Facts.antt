@@ -5,10 +5,10 @@ use mathlib.Core.Path.{_≡_}
 use mathlib.Core.Bool.{Bool, true, false}
 use mathlib.Core.List.{List}
 use lib.Dec.{eqb}
-use lib.ListN.{length, take, drop}
+use lib.ListN.{length, drop}
 use Rattle.lists.specs.Rules.{every}
 use Rattle.panel.specs.Registers.{dataLength}
-use Rattle.settings.specs.Settings.{Step, write, wait, malformed, stepsOf, restOf, allSteps, writesTo, panelOf, stopSection, settingsRules, settingsGood}
+use Rattle.settings.specs.Settings.{Step, write, wait, malformed, stepOf, stepsOf, restOf, allSteps, writesTo, panelOf, stopSection, startStepRules, settingsGood}
 use Rattle.settings.specs.Steps.{waitsBefore, fromWrite}
 use Rattle.settings.specs.declared.Kind.{Kind}
 use Rattle.settings.specs.declared.Kind.the-variants.{Write, Wait, Malformed}
@@ -32,23 +32,14 @@ kindWritesTo register (Write r) = eqb r register
 kindWritesTo register (Wait ms) = false
 kindWritesTo register Malformed = false
 
--- n steps from index `at` on were passed: where they end, and whether they write the channels and the level
+-- n steps from index `at` on were passed: where they end, whether they write the channels and the level, and, of one step, what it is
 pub record StepsPassed (panel n at : ℕ) (file : List ℕ) (r : StepsEnd) : Type 0 where
   pub good : r .ok ≡ allSteps (stepsOf panel n (drop at file))
   pub within : r .end ≤ length file
   pub rest : drop (r .end) file ≡ restOf panel n (drop at file)
   pub channels : r .ok ≡ true → r .channels ≡ writesTo 0x01 (stepsOf panel n (drop at file))
   pub level : r .ok ≡ true → r .level ≡ writesTo 0x04 (stepsOf panel n (drop at file))
-
--- the rules in three parts: those up to the count of the start steps, those of the start steps, and the others
-abbrev pub headRules : (file : List ℕ) → List Bool
-headRules file = take 5 (settingsRules file)
-
-abbrev pub startRules : (file : List ℕ) → List Bool
-startRules file = take 3 (drop 5 (settingsRules file))
-
-abbrev pub stopRules : (file : List ℕ) → List Bool
-stopRules file = drop 8 (settingsRules file)
+  pub one : n ≡ 1 → r .last ≡ kindOf (stepOf panel (drop at file))
 
 -- a file whose steps can be read
 pub record Readable (file : List ℕ) : Type 0 where
@@ -68,7 +59,7 @@ pub record Accepted (file : List ℕ) (stop : ℕ) : Type 0 where
 
 -- whether the start steps keep their rules, and where the stop section begins
 pub record StartPassed (file : List ℕ) (r : Layout) : Type 0 where
-  pub good : r .ok ≡ every (startRules file)
+  pub good : r .ok ≡ every (startStepRules file)
   pub stop : r .ok ≡ true → StopAt file (r .stop)
 
 -- whether a file is accepted, and where its stop section begins

@@ -2,12 +2,13 @@
 -- Assumes nothing.
 use Prim.Native.Nat.{ℕ, zero, suc, _+_, _*_}
 use mathlib.Core.Bool.{Bool, true, false, cond, _&&_, _||_}
-use mathlib.Core.List.{List, [], _∷_}
+use mathlib.Core.List.{List, [], _∷_, _++_}
 use lib.Dec.{ltb, leb, eqb}
 use lib.ListN.{length, getD, take, drop}
 use Rattle.lists.specs.Rules.{every}
-use Rattle.panel.specs.Panels.{isPanel, rowsOf, rowBytesOf, strideOf}
+use Rattle.panel.specs.Panels.{isPanel, rowsOf, rowBytesOf, strideOf, shapeOf}
 use Rattle.panel.specs.Registers.{dataLength, channelData, gateSourceLevel}
+use Rattle.panel.specs.declared.Shape.{Shape}
 
 -- the longest file that is accepted
 abbrev pub longestFile : ℕ
@@ -101,6 +102,9 @@ rowsIn file = rowsOf (panelOf file)
 abbrev pub strideIn : (file : List ℕ) → ℕ
 strideIn file = strideOf (panelOf file)
 
+abbrev pub shapeIn : (file : List ℕ) → Shape
+shapeIn file = shapeOf (panelOf file)
+
 abbrev pub startCount : (file : List ℕ) → ℕ
 startCount file = getD file 2 0
 
@@ -123,21 +127,31 @@ endOf file = restOf (panelOf file) (stopCount file) (drop 1 (stopSection file))
 
 -- ---- the rules
 
-abbrev pub settingsRules : (file : List ℕ) → List Bool
-settingsRules file =
+-- the panel section, and the count of the start steps
+abbrev pub headRules : (file : List ℕ) → List Bool
+headRules file =
     leb 3 (length file)
     ∷ eqb (getD file 0 0) 1
     ∷ isPanel (panelOf file)
     ∷ leb 2 (startCount file)
     ∷ leb (startCount file) 32
-    ∷ allSteps (startSteps file)
-    ∷ writesTo 0x01 (startSteps file)
-    ∷ writesTo 0x04 (startSteps file)
-    ∷ ltb 0 (length (stopSection file))
+    ∷ []
+
+-- the start steps: the channels and the level are written among them
+abbrev pub startStepRules : (file : List ℕ) → List Bool
+startStepRules file = allSteps (startSteps file) ∷ writesTo 0x01 (startSteps file) ∷ writesTo 0x04 (startSteps file) ∷ []
+
+-- the stop section, and nothing after it
+abbrev pub stopSectionRules : (file : List ℕ) → List Bool
+stopSectionRules file =
+    ltb 0 (length (stopSection file))
     ∷ leb (stopCount file) 32
     ∷ allSteps (stopSteps file)
     ∷ eqb (length (endOf file)) 0
     ∷ []
+
+abbrev pub settingsRules : (file : List ℕ) → List Bool
+settingsRules file = headRules file ++ (startStepRules file ++ stopSectionRules file)
 
 unfoldable pub settingsGood : (file : List ℕ) → Bool
 settingsGood file = every (settingsRules file)

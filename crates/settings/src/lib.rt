@@ -1,11 +1,12 @@
 // The settings file: the check of its rules, and the reading of its steps.
 ghost use mathlib.Core.Path.{_≡_};
-ghost use mathlib.Core.Bool.{_||_};
+ghost use mathlib.Core.Bool.{_||_, false};
 ghost use Prim.Native.Nat.{_+_, _-_, _*_, _≤_, _<_};
 ghost use Rattle.lists.specs.Rules.{every};
 ghost use lib.ListN.{length, drop};
 ghost use Rattle.settings.specs.Settings.{
   Step,
+  write,
   hasPrefix,
   requiredData,
   writeOf,
@@ -13,21 +14,26 @@ ghost use Rattle.settings.specs.Settings.{
   stepOf,
   stepsOf,
   panelOf,
+  longestFile,
+  headRules,
+  stopSectionRules,
   checkSettings,
 };
+ghost use Rattle.settings.specs.Plans.{PlanOf, PlannedFor};
+ghost use Rattle.settings.specs.Kept.{noSettings, keptSettings};
 ghost use Rattle.settings.specs.Facts.{
   kindOf,
   kindSize,
   kindWritesTo,
   StepsPassed,
-  headRules,
-  stopRules,
   Readable,
   StopAt,
+  Accepted,
   StartPassed,
   LaidOut,
   Found,
 };
+use panel::Shape;
 
 // What stands at a place of the file: a write of a register, a wait in ms, or no step.
 pub enum Kind {
@@ -101,8 +107,8 @@ fn wait_of(high: u8, low: u8) -> Kind
     Kind::Wait(ms)
 }
 
-// The step at a place of the file.
-pub fn step_at(file: &[u8], at: usize, panel: usize) -> Kind
+// The step at a place of the file. Only the loop of `pass_steps` calls it, so that it is compiled into that loop.
+fn read_step(file: &[u8], at: usize, panel: usize) -> Kind
     requires { ⌜ (panel < 3) × (at ≤ length (now file)) ⌝ }
     ensures { λ r. ⌜ r ≡ kindOf (stepOf panel (drop at (now (file .entry)))) ⌝ }
 {
@@ -152,12 +158,13 @@ fn written_so_far(before: bool, kind: Kind, register: u8) -> bool
     is_write_to(kind, register)
 }
 
-// Whether steps were passed, the index behind them, and whether they write the channels (0x01) and the level (0x04).
+// Whether steps were passed, the index after them, whether they write the channels (0x01) and the level (0x04), and what the last one is.
 pub struct StepsEnd {
     pub ok: bool,
     pub end: usize,
     pub channels: bool,
     pub level: bool,
+    pub last: Kind,
 }
 
 // Passes n steps, from index `at` on.
@@ -169,8 +176,9 @@ pub fn pass_steps(file: &[u8], panel: usize, at: usize, n: usize) -> StepsEnd
     let mut left = n;
     let mut channels = false;
     let mut level = false;
+    let mut last = Kind::Malformed;
     while 0 < left {
-        let kind = step_at(file, end, panel);
+        let kind = read_step(file, end, panel);
         let z = size(kind);
         if z == 0 {
             return StepsEnd {
@@ -178,23 +186,35 @@ pub fn pass_steps(file: &[u8], panel: usize, at: usize, n: usize) -> StepsEnd
                 end,
                 channels,
                 level,
+                last: kind,
             };
         }
         channels = written_so_far(channels, kind, 0x01);
         level = written_so_far(level, kind, 0x04);
         end += z;
         left -= 1;
+        last = kind;
     }
     StepsEnd {
         ok: true,
         end,
         channels,
         level,
+        last,
     }
 }
 
+// The step at a place of the file.
+pub fn step_at(file: &[u8], at: usize, panel: usize) -> Kind
+    requires { ⌜ (panel < 3) × (at ≤ length (now file)) ⌝ }
+    ensures { λ r. ⌜ r ≡ kindOf (stepOf panel (drop at (now (file .entry)))) ⌝ }
+{
+    let passed = pass_steps(file, panel, at, 1);
+    passed.last
+}
+
 // The panel that a file names.
-pub fn panel_of(file: &[u8]) -> usize
+fn panel_of(file: &[u8]) -> usize
     requires { ⌜ 1 < length (now file) ⌝ }
     ensures { λ r. ⌜ r ≡ panelOf (now (file .entry)) ⌝ }
 {
@@ -202,9 +222,9 @@ pub fn panel_of(file: &[u8]) -> usize
 }
 
 // Whether a file keeps the rules that were asked of it, and the index of its stop section.
-pub struct Layout {
-    pub ok: bool,
-    pub stop: usize,
+struct Layout {
+    ok: bool,
+    stop: usize,
 }
 
 // Whether the panel section and the count of the start steps keep their rules.
@@ -250,7 +270,7 @@ fn pass_start(file: &[u8]) -> Layout
 // Whether the stop steps, whose count stands at index `stop`, keep their rules, and nothing follows them.
 fn stop_good(file: &[u8], stop: usize) -> bool
     requires { ⌜ (Readable (now file)) × (StopAt (now file) stop) ⌝ }
-    ensures { λ r. ⌜ r ≡ every (stopRules (now (file .entry))) ⌝ }
+    ensures { λ r. ⌜ r ≡ every (stopSectionRules (now (file .entry))) ⌝ }
 {
     if file.len() <= stop {
         return false;
@@ -267,7 +287,7 @@ fn stop_good(file: &[u8], stop: usize) -> bool
 }
 
 // Whether a file keeps every rule, and where its stop section begins.
-pub fn laid_out(file: &[u8]) -> Layout
+fn laid_out(file: &[u8]) -> Layout
     ensures { λ r. ⌜ LaidOut (now (file .entry)) r ⌝ }
 {
     if !head_good(file) {
@@ -290,6 +310,122 @@ pub fn check_settings(file: &[u8]) -> u8
 {
     let layout = laid_out(file);
     if layout.ok { 0 } else { 2 }
+}
+
+// ---- an accepted file, kept by value
+
+// The bytes of the file stand at the front, and `len` is how many.
+pub struct Settings {
+    pub file: [u8; 637],
+    pub len: usize,
+}
+
+// No file.
+pub fn no_settings() -> Settings
+    ensures { λ r. ⌜ r ≡ noSettings ⌝ }
+{
+    Settings {
+        file: [0u8; 637],
+        len: 0,
+    }
+}
+
+pub fn keep(file: &[u8]) -> Settings
+    requires { ⌜ length (now file) ≤ longestFile ⌝ }
+    ensures { λ r. ⌜ r ≡ keptSettings (now (file .entry)) ⌝ }
+{
+    let mut kept = [0u8; 637];
+    lists::put_at(&mut kept, 0, file);
+    Settings {
+        file: kept,
+        len: file.len(),
+    }
+}
+
+// ---- what a call reads from an accepted file
+
+// A section of steps: the index at which they begin, and how many there are.
+pub struct Section {
+    pub at: usize,
+    pub count: usize,
+}
+
+// The panel, its sizes, and the sections.
+pub struct Plan {
+    pub panel: usize,
+    pub shape: Shape,
+    pub start: Section,
+    pub stop: Section,
+}
+
+// Whether a file is accepted, and its plan where it is.
+pub struct Planned {
+    pub ok: bool,
+    pub plan: Plan,
+}
+
+// The plan of an accepted file whose stop section begins at index `stop`.
+fn make_plan(file: &[u8], stop: usize) -> Plan
+    requires { ⌜ Accepted (now file) stop ⌝ }
+    ensures { λ r. ⌜ PlanOf (now (file .entry)) r ⌝ }
+{
+    let panel = panel_of(file);
+    let shape = panel::shape_of(panel);
+    Plan {
+        panel,
+        shape,
+        start: Section {
+            at: 3,
+            count: file[2] as usize,
+        },
+        stop: Section {
+            at: stop + 1,
+            count: file[stop] as usize,
+        },
+    }
+}
+
+// No plan, where there is no accepted file; nothing reads it.
+pub fn no_plan() -> Planned
+    ensures { λ r. ⌜ r .ok ≡ false ⌝ }
+{
+    Planned {
+        ok: false,
+        plan: Plan {
+            panel: 0,
+            shape: Shape {
+                bytes: 0,
+                rows: 0,
+                stride: 0,
+                frames: 0,
+            },
+            start: Section { at: 0, count: 0 },
+            stop: Section { at: 0, count: 0 },
+        },
+    }
+}
+
+// Whether a file is accepted, and what a call reads from it.
+pub fn plan_of(file: &[u8]) -> Planned
+    ensures { λ r. ⌜ PlannedFor (now (file .entry)) r ⌝ }
+{
+    let layout = laid_out(file);
+    let stop = layout.stop;
+    if !layout.ok {
+        return no_plan();
+    }
+    let plan = make_plan(file, stop);
+    Planned { ok: true, plan }
+}
+
+// The data of a write of a register that stands at index `at` of the file.
+pub fn data_of(file: &[u8], panel: usize, at: usize, register: u8) -> &[u8]
+    requires { ⌜ (kindOf (stepOf panel (drop at (now file))) ≡ Kind.Write register) × (at ≤ length (now file)) ⌝ }
+    ensures { λ r. ⌜ stepOf panel (drop at (now (file .entry))) ≡ write register (now r) ⌝ }
+{
+    let start = at + 2;
+    let end = start + panel::data_length(register);
+    &file[start..end]
 }
 
 // The next write among some steps: the ms of the waits before it, its index in the file, and the steps left from it on.

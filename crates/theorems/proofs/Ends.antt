@@ -8,8 +8,7 @@ use Prim.Native.Nat.{ℕ, suc, _+_, _-_, _≤_, _<_}
 use native.Mathlib.Omega.{arith}
 use borrow.Author.Tests.{lt-ltb, le-ltb}
 use lib.ListN.{length, drop}
-use Rattle.settings.specs.Settings.{Step, startSteps, stopSteps, rowsIn}
-use Rattle.settings.specs.Steps.{fromWrite}
+use Rattle.settings.specs.Settings.{startSteps, stopSteps, rowsIn}
 use Rattle.run.specs.Clock.{stepFrom, passedAt, clockRefused}
 use Rattle.run.specs.Due.{runFrames, dueAt, dueOf}
 use Rattle.run.specs.Runs.{waited}
@@ -18,17 +17,17 @@ use Rattle.run.specs.declared.Passed.{Passed}
 use Rattle.run.specs.declared.Position.{Position}
 use Rattle.run.specs.declared.Position.the-variants.{Start, Line, Stop}
 use Rattle.run.specs.declared.Run.{Run}
-use Rattle.poll.specs.HandOut.{handStart, handStop, handOut}
 use Rattle.poll.specs.Poll.{pollAt, pollRun}
 use Rattle.poll.specs.declared.Answer.the-variants.{Wait}
-use Rattle.poll.specs.declared.Phase.{Phase}
-use Rattle.poll.specs.declared.Phase.the-variants.{Idle, Abandoned, Running}
+use Rattle.run.specs.declared.Phase.{Phase}
+use Rattle.run.specs.declared.Phase.the-variants.{Idle, Abandoned, Running}
 use Rattle.board.specs.State.{fileOf}
 use Rattle.board.specs.Calls.{isRunning, starting}
 use Rattle.board.specs.History.{Call, Event, answered, eventsOf}
 use Rattle.theorems.specs.Order.{Thing, aWrite, aLine, theEnd, writesOf, rowsFrom, framesFrom, stagesFrom, thingsOfRun, thingsFrom, thingsIn, thingAnswer}
 use Rattle.theorems.specs.Progress.{isHandOut, handsOut, AllGo, none, more, nothing, hands, noTurns, stateAfter, handOuts, answerIn}
 use Rattle.board.specs.declared.State.{State}
+use Rattle.theorems.proofs.Handed.{hands-some}
 use Rattle.theorems.proofs.Progress.{run-in-order}
 
 -- ---- as many things as a run has
@@ -75,33 +74,20 @@ pub run-ends : (state : State) (memory : List ℕ) (slot : ℕ) (tick : Tick) (c
     → starting state (length memory) slot tick .number ≡ 0
     → noTurns (eventsOf (starting state (length memory) slot tick .state) memory calls) ≡ true
     → handOuts (eventsOf (starting state (length memory) slot tick .state) memory calls) ≡ length (thingsOfRun (fileOf state))
-    → isRunning (stateAfter (starting state (length memory) slot tick .state) memory calls .phase) ≡ false
+    → isRunning (stateAfter (starting state (length memory) slot tick .state) memory calls .store .phase) ≡ false
 run-ends state memory slot tick calls accepted quiet all =
-    over (fileOf state) (stateAfter (starting state (length memory) slot tick .state) memory calls .phase)
+    over (fileOf state) (stateAfter (starting state (length memory) slot tick .state) memory calls .store .phase)
     (omega (arith, hands-counted (run-in-order state memory slot tick calls accepted quiet), all))
 
 -- ---- a poll that is due
 
 module _ (file : List ℕ) (run : Run) (tick : Tick) (memory out : List ℕ) where
-  hands-some : (moment : Passed) (position : Position) → isHandOut (answerIn (handOut file run tick moment memory out position)) ≡ true
-  hands-some moment (Start k) = of-start (fromWrite (drop k (startSteps file)))
-    where
-      of-start : (steps : List Step) → isHandOut (answerIn (handStart file run tick moment memory out steps)) ≡ true
-      of-start [] = refl
-      of-start (step ∷ steps) = refl
-  hands-some moment (Line stage frame row) = refl
-  hands-some moment (Stop k) = of-stop (fromWrite (drop k (stopSteps file)))
-    where
-      of-stop : (steps : List Step) → isHandOut (answerIn (handStop file run tick moment memory out steps)) ≡ true
-      of-stop [] = refl
-      of-stop (step ∷ steps) = refl
-
   module _ (room : 117 ≤ length out) (forward : clockRefused (run .passed) (run .last) tick ≡ false) where
     pub due-hands : dueOf file run ≤ passedAt (run .passed) (run .last) tick → isHandOut (answerIn (pollRun file run tick memory out)) ≡ true
     unfolding pollRun pollAt
     due-hands due =
         rw (le-ltb (length out) 117 room, forward, le-ltb (passedAt (run .passed) (run .last) tick) (dueOf file run) due)
-        (hands-some (record { 0 = passedAt (run .passed) (run .last) tick }) (run .next))
+        (hands-some file run tick (record { 0 = passedAt (run .passed) (run .last) tick }) memory out (run .next))
 
     -- one that comes earlier is told the ms until then
     pub early-waits : passedAt (run .passed) (run .last) tick < dueOf file run

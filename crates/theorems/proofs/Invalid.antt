@@ -7,19 +7,10 @@ use mathlib.Core.List.{List}
 use Prim.Native.Nat.{ℕ}
 use lib.Dec.{eqb}
 use Rattle.lists.proofs.Rules.{broken}
-use Rattle.poll.specs.Answers.{answerNumber}
 use Rattle.board.specs.State.{stateRules, stateValid, emptyState}
 use Rattle.board.specs.Calls.{regionUpload, bitmapUpload, starting, abandoning, polled, bitmapWrite}
-use Rattle.board.specs.History.{Call, uploadRegion, uploadBitmap, start, poll, abandon, writeBitmap, Given, number, answered, isAccepted, callOn}
+use Rattle.board.specs.History.{Call, uploadRegion, uploadBitmap, start, poll, abandon, writeBitmap, numberGiven, isAccepted, givenBy, callOn}
 use Rattle.board.specs.declared.State.{State}
-use Rattle.theorems.proofs.Refusals.{givenBy}
-
--- the number of what a call gave back
-abbrev pub numberGiven : Given → ℕ
-numberGiven (number n) = n
-numberGiven (answered answer) = answerNumber answer
-
--- ---- a state that breaks a condition earns 13, and accepted calls had a state that breaks none
 
 pub invalid-refused : (state : State) (memory : List ℕ) (call : Call) → stateValid state ≡ false
     → numberGiven (givenBy (callOn state memory call .seen)) ≡ 13
@@ -36,10 +27,6 @@ pub empty-refused : (memory : List ℕ) (call : Call) → numberGiven (givenBy (
 unfolding stateValid
 empty-refused memory call = invalid-refused emptyState memory call (broken 2 (stateRules emptyState) refl)
 
-accepted-number : (given : Given) → isAccepted given ≡ eqb (numberGiven given) 0
-accepted-number (number n) = refl
-accepted-number (answered answer) = refl
-
 pub was-valid : (state : State) (memory : List ℕ) (call : Call) → isAccepted (givenBy (callOn state memory call .seen)) ≡ true
     → stateValid state ≡ true
 was-valid state memory call e = by-validity (stateValid state) refl
@@ -47,7 +34,4 @@ was-valid state memory call e = by-validity (stateValid state) refl
     by-validity : (b : Bool) → stateValid state ≡ b → b ≡ true
     by-validity true q = refl
     by-validity false q =
-        absurd (false≢true
-        (sym (ap (λ (n : ℕ). eqb n 0) (invalid-refused state memory call q))
-        ∙ sym (accepted-number (givenBy (callOn state memory call .seen)))
-        ∙ e))
+        absurd (false≢true (sym (ap (λ (n : ℕ). eqb n 0) (invalid-refused state memory call q)) ∙ e))

@@ -1,4 +1,5 @@
--- A refused call changes nothing; a state that breaks a condition earns 13 in every call; an accepted call leaves a state free of 13.
+-- A refused call changes nothing; a state that breaks a condition earns 13 in every call; an accepted call leaves a valid state.
+pub mod Handed
 pub mod Refusals
 pub mod Invalid
 pub mod Kept

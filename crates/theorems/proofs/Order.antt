@@ -1,5 +1,4 @@
--- Polls hand out the things of a run in order: where something goes out, it is the first of all that is to come, and the others are
--- still to come; a refusal and a wait answer leave all of it.
+-- What a run hands out is the first of all that is to come, and the others are still to come.
 -- Assumes nothing.
 use mathlib.Core.Path.{_≡_, refl, sym, ap, _∙_}
 use mathlib.Core.Bool.{true}
@@ -7,9 +6,10 @@ use mathlib.Core.List.{List, [], _∷_, _++_}
 use Prim.Native.Nat.{ℕ, _+_, _-_, _<_}
 use native.Mathlib.Omega.{arith}
 use lib.ListN.{drop}
+use Rattle.panel.proofs.Panels.{size-of}
 use Rattle.settings.specs.Settings.{Step, panelOf, startSteps, stopSteps, settingsGood, rowsIn}
 use Rattle.settings.specs.Steps.{fromWrite}
-use Rattle.settings.proofs.Accepted.{good-panel, length-starts, length-stops}
+use Rattle.settings.proofs.Accepted.{good-panel, all-starts, all-stops, length-starts, length-stops}
 use Rattle.settings.proofs.Steps.{all-from}
 use Rattle.run.specs.Due.{runFrames}
 use Rattle.run.specs.Conditions.{runValid}
@@ -18,14 +18,10 @@ use Rattle.run.specs.declared.Passed.{Passed}
 use Rattle.run.specs.declared.Position.{Position}
 use Rattle.run.specs.declared.Position.the-variants.{Start, Line, Stop}
 use Rattle.run.specs.declared.Run.{Run}
-use Rattle.run.proofs.Place.{frames-some, rows-some}
 use Rattle.run.proofs.Valid.{valid-line}
-use Rattle.run.proofs.Writes.{all-starts, all-stops}
 use Rattle.poll.specs.HandOut.{Outcome, handStart, handStop, handOut}
-use Rattle.poll.specs.Poll.{pollRun}
 use Rattle.theorems.specs.Order.{Thing, aWrite, aLine, theEnd, writesOf, stagesFrom, thingsFrom, InOrder}
-use Rattle.board.proofs.Cases.{by-run}
-use Rattle.theorems.proofs.Things.{writes-from, first-write, behind-write, lines-begin, line-first}
+use Rattle.theorems.proofs.Things.{writes-from, first-write, after-write, lines-begin, line-first}
 
 -- ---- a poll of a run under way
 
@@ -45,26 +41,25 @@ module _ (file : List ℕ) (n : ℕ) (run : Run) (tick : Tick) (memory out : Lis
     start-hands : (k : ℕ) (steps : List Step) → fromWrite (drop k (startSteps file)) ≡ steps
         → Ordered (Start k) (handStart file run tick moment memory out steps)
     start-hands k [] found =
-        let panel = good-panel file good in
-        let frames : 0 < runFrames file = frames-some (panelOf file) panel in
-        let rows : 0 < rowsIn file = omega (arith, rows-some (panelOf file) panel) in
+        let size = size-of (panelOf file) (good-panel file good) in
+        let frames : 0 < runFrames file = size .frames-some in
         record {
           thing = aLine 1 0 0;
           first =
               ap (λ (l : List Thing). l ++ lines) (writes-from (drop k (startSteps file)) ∙ ap writesOf found)
               ∙ lines-begin (rowsIn file) (runFrames file) stops frames
-              ∙ line-first file 1 0 0 frames rows;
+              ∙ line-first file 1 0 0 frames (size .high);
           answers = refl;
           puts = refl;
         }
     start-hands k (step ∷ rest) found =
-        let behind = rw (length-starts file good) at (behind-write (startSteps file) k step rest found) in
+        let after = rw (length-starts file good) at (after-write (startSteps file) k step rest found) in
         record {
           thing = aWrite step;
           first =
               ap (λ (l : List Thing). l ++ lines)
               (first-write (drop k (startSteps file)) step rest (all-from k (startSteps file) (all-starts file good)) found)
-              ∙ ap (λ (l : List Step). aWrite step ∷ (writesOf l ++ lines)) (sym behind);
+              ∙ ap (λ (l : List Step). aWrite step ∷ (writesOf l ++ lines)) (sym after);
           answers = refl;
           puts = refl;
         }
@@ -80,13 +75,13 @@ module _ (file : List ℕ) (n : ℕ) (run : Run) (tick : Tick) (memory out : Lis
           puts = refl;
         }
     stop-hands k (step ∷ rest) found =
-        let behind = rw (length-stops file good) at (behind-write (stopSteps file) k step rest found) in
+        let after = rw (length-stops file good) at (after-write (stopSteps file) k step rest found) in
         record {
           thing = aWrite step;
           first =
               ap (λ (l : List Thing). l ++ (theEnd ∷ []))
               (first-write (drop k (stopSteps file)) step rest (all-from k (stopSteps file) (all-stops file good)) found)
-              ∙ ap (λ (l : List Step). aWrite step ∷ (writesOf l ++ (theEnd ∷ []))) (sym behind);
+              ∙ ap (λ (l : List Step). aWrite step ∷ (writesOf l ++ (theEnd ∷ []))) (sym after);
           answers = refl;
           puts = refl;
         }
@@ -103,9 +98,5 @@ module _ (file : List ℕ) (n : ℕ) (run : Run) (tick : Tick) (memory out : Lis
         }
     hands-first (Stop k) at = stop-hands k (fromWrite (drop k (stopSteps file))) refl
 
-  pub in-order : InOrder file memory out (run .slot) (thingsFrom file (run .next)) (pollRun file run tick memory out)
-  in-order =
-      by-run file run tick memory out (Ordered (run .next))
-      (λ number. refl)
-      (λ moment ms. refl)
-      (λ moment. hands-first moment (run .next) refl)
+    pub in-order : InOrder file memory out (run .slot) (thingsFrom file (run .next)) (handOut file run tick moment memory out (run .next))
+    in-order = hands-first (run .next) refl

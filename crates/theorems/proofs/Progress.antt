@@ -7,33 +7,33 @@ use mathlib.Core.List.{List, [], _∷_}
 use Prim.Native.Nat.{ℕ}
 use borrow.Author.Tests.{eqb-true, eq-eqb, eqb-false, not-true}
 use lib.Dec.{eqb}
-use lib.ListN.{length, drop}
+use lib.ListN.{length}
 use Rattle.lists.specs.Lists.{overlay}
 use Rattle.lists.proofs.Lists.{take-overlay}
-use Rattle.lists.proofs.Rules.{and-left, and-right}
-use Rattle.settings.specs.Settings.{Step, startSteps, stopSteps}
-use Rattle.settings.specs.Steps.{fromWrite}
-use Rattle.run.specs.Conditions.{runValid}
+use Rattle.lists.proofs.Rules.{and-left, and-right, by-cases}
+use Rattle.run.specs.Runs.{begun}
 use Rattle.run.specs.declared.Tick.{Tick}
 use Rattle.run.specs.declared.Passed.{Passed}
 use Rattle.run.specs.declared.Position.{Position}
-use Rattle.run.specs.declared.Position.the-variants.{Start, Line, Stop}
 use Rattle.run.specs.declared.Run.{Run}
+use Rattle.run.specs.declared.Phase.{Phase}
+use Rattle.run.specs.declared.Phase.the-variants.{Idle, Abandoned, Running}
 use Rattle.poll.specs.Answers.{putOut}
-use Rattle.poll.specs.HandOut.{Outcome, outcome, stepBytes, lineBytes, handStart, handStop, handOut}
-use Rattle.poll.specs.Poll.{pollRun}
+use Rattle.poll.specs.HandOut.{Outcome, outcome, stepBytes, lineBytes, handOut}
 use Rattle.poll.specs.declared.Answer.{Answer}
 use Rattle.poll.specs.declared.Answer.the-variants as answer
-use Rattle.poll.specs.declared.Phase.{Phase}
-use Rattle.poll.specs.declared.Phase.the-variants.{Idle, Abandoned, Running}
-use Rattle.board.specs.State.{fileOf, stateValid}
-use Rattle.board.specs.Calls.{polling, inState, pollPhase, starting}
-use Rattle.board.specs.History.{Call, uploadRegion, uploadBitmap, start, poll, abandon, writeBitmap, answered, event, Called, ofReply, ofPoll, callOn, eventsOf}
-use Rattle.theorems.specs.Order.{Thing, aWrite, aLine, theEnd, thingsOfRun, thingsIn, thingBytes, thingAnswer, HandsFirst, InOrder}
-use Rattle.theorems.specs.Progress.{Goes, nothing, hands, AllGo, none, more, turns, noTurns, stateAfter}
+use Rattle.board.specs.State.{fileOf, withPhase, stateValid}
+use Rattle.board.specs.Calls.{reply, inState, startCases, starting}
+use Rattle.board.specs.History.{Call, start, poll, Given, number, answered, isAccepted, event, outOf, Called, ofPoll, callOn, eventsOf}
 use Rattle.board.specs.declared.State.{State}
-use Rattle.board.proofs.Cases.{by-region, by-bitmap, by-start, by-abandon, by-write, by-poll, by-run}
-use Rattle.theorems.proofs.Kept.{stays-valid, valid-kept, file-good, phase-good}
+use Rattle.board.specs.declared.Reply.{Reply}
+use Rattle.board.proofs.States.{valid-state, run-of}
+use Rattle.board.proofs.Effects as effects
+use Rattle.board.proofs.Effects.{Effect, leaving, polledTo, effect}
+use Rattle.theorems.specs.Order.{Thing, aWrite, aLine, theEnd, thingsOfRun, thingsIn, thingBytes, thingAnswer, HandsFirst, InOrder}
+use Rattle.theorems.specs.Progress.{handsOut, Goes, nothing, hands, AllGo, none, more, turns, noTurns, stateAfter}
+use Rattle.theorems.proofs.Handed.{by-handed}
+use Rattle.theorems.proofs.Kept.{stays-valid, valid-kept}
 use Rattle.theorems.proofs.Order.{in-order}
 
 -- a run under way shows this slot
@@ -45,8 +45,17 @@ runsOn (Running run) slot = eqb (run .slot) slot
 -- a call keeps the settings file and the run's slot, and its event goes through what is to come
 record Onward (file : List ℕ) (slot : ℕ) (toCome : List Thing) (called : Called) : Type 0 where
   pub file-kept : fileOf (called .state) ≡ file
-  pub slot-kept : runsOn (called .state .phase) slot ≡ true
-  pub goes : Goes file slot toCome (called .seen) (thingsIn file (called .state .phase))
+  pub slot-kept : runsOn (called .state .store .phase) slot ≡ true
+  pub goes : Goes file slot toCome (called .seen) (thingsIn file (called .state .store .phase))
+
+-- a refusal hands nothing out
+refused-hands : (given : Given) → isAccepted given ≡ false → handsOut given ≡ false
+refused-hands (number n) e = refl
+refused-hands (answered (answer.Refused n)) e = refl
+refused-hands (answered (answer.Write n)) e = absurd (false≢true (sym e))
+refused-hands (answered (answer.Line n)) e = absurd (false≢true (sym e))
+refused-hands (answered (answer.Wait ms)) e = refl
+refused-hands (answered answer.Done) e = absurd (false≢true (sym e))
 
 -- ---- a poll of a run
 
@@ -75,95 +84,75 @@ module _ (file : List ℕ) (slot : ℕ) (tick : Tick) (memory out : List ℕ) wh
   goes-outcome state toCome (outcome (answer.Line l) phase memory′ out′) first = goes-first toCome _ phase out′ first
   goes-outcome state toCome (outcome answer.Done phase memory′ out′) first = goes-first toCome _ phase out′ first
 
-  module _ (run : Run) (on : eqb (run .slot) slot ≡ true) where
-    hands-on : (moment : Passed) (position : Position) → runsOn (phaseIn (handOut file run tick moment memory out position)) slot ≡ true
-    hands-on moment (Start k) = of-start (fromWrite (drop k (startSteps file)))
-      where
-        of-start : (steps : List Step) → runsOn (phaseIn (handStart file run tick moment memory out steps)) slot ≡ true
-        of-start [] = on
-        of-start (step ∷ steps) = on
-    hands-on moment (Line stage frame row) = on
-    hands-on moment (Stop k) = of-stop (fromWrite (drop k (stopSteps file)))
-      where
-        of-stop : (steps : List Step) → runsOn (phaseIn (handStop file run tick moment memory out steps)) slot ≡ true
-        of-stop [] = refl
-        of-stop (step ∷ steps) = on
-
-    polled-on : runsOn (phaseIn (pollRun file run tick memory out)) slot ≡ true
-    polled-on =
-        by-run file run tick memory out (λ o. runsOn (phaseIn o) slot ≡ true) (λ number. on) (λ moment ms. on)
-        (λ moment. hands-on moment (run .next))
+  -- it shows the same slot
+  hands-on : (run : Run) → eqb (run .slot) slot ≡ true → (moment : Passed) (position : Position)
+      → runsOn (phaseIn (handOut file run tick moment memory out position)) slot ≡ true
+  hands-on run on moment =
+      by-handed file run tick moment memory out (λ o. runsOn (phaseIn o) slot ≡ true) (λ step next. on) (λ first stage frame row. on) refl
 
 -- ---- every call
 
-module _ (state : State) (memory : List ℕ) (slot : ℕ) (valid : stateValid state ≡ true) (on : runsOn (state .phase) slot ≡ true) where
+module _ (state : State) (memory : List ℕ) (slot : ℕ) (valid : stateValid state ≡ true) (on : runsOn (state .store .phase) slot ≡ true) where
   abbrev Goes-on : Called → Type 0
-  Goes-on = Onward (fileOf state) slot (thingsIn (fileOf state) (state .phase))
+  Goes-on = Onward (fileOf state) slot (thingsIn (fileOf state) (state .store .phase))
 
-  poll-on : (tick : Tick) (out : List ℕ) → Goes-on (callOn state memory (poll tick out))
-  poll-on tick out =
-      by-poll state memory tick out (λ p. Goes-on (ofPoll (poll tick out) memory p)) (λ number e. refuses number)
-      (λ fine. by-phase (state .phase) refl)
-    where
-      refuses : (number : ℕ) → Goes-on (ofPoll (poll tick out) memory (polling (answer.Refused number) state memory out))
-      refuses number = record { file-kept = refl; slot-kept = on; goes = nothing refl }
+  -- nothing goes out, and the phase stays
+  stays-on : (call : Call) (given : Given) → handsOut given ≡ false → (memory′ out′ : List ℕ)
+      → Goes-on (leaving call memory given state memory′ out′)
+  stays-on call given e memory′ out′ = record { file-kept = refl; slot-kept = on; goes = nothing e }
 
-      in-state : (o : Outcome) → runsOn (phaseIn o) slot ≡ true
-          → Goes (fileOf state) slot (thingsIn (fileOf state) (state .phase)) (ofPoll (poll tick out) memory (inState state o) .seen)
-          (thingsIn (fileOf state) (phaseIn o))
-          → Goes-on (ofPoll (poll tick out) memory (inState state o))
-      in-state (outcome given phase memory′ out′) kept goes = record { file-kept = refl; slot-kept = kept; goes = goes }
+  module _ (tick : Tick) (out : List ℕ) (run : Run) (at : state .store .phase ≡ Running run) where
+    on-run : eqb (run .slot) slot ≡ true
+    on-run = rw at at on
 
-      by-phase : (phase : Phase) → state .phase ≡ phase → Goes-on (ofPoll (poll tick out) memory (pollPhase state tick memory out phase))
-      by-phase Idle e = refuses 9
-      by-phase Abandoned e = refuses 9
-      by-phase (Running run) e =
-          let file = fileOf state in
-          let o = pollRun file run tick memory out in
-          let run-valid : runValid file (state .slots) run ≡ true = rw e at (phase-good state valid) in
-          let on-run : eqb (run .slot) slot ≡ true = rw e at on in
-          let order = in-order file (state .slots) run tick memory out (file-good state valid) run-valid in
-          let ordered : InOrder file memory out slot (thingsIn file (state .phase)) o = rw (e, ← eqb-true (run .slot) slot on-run) order in
-          in-state o (polled-on file slot tick memory out run on-run) (goes-outcome file slot tick memory out state _ o ordered)
+    in-state : (o : Outcome) → runsOn (phaseIn o) slot ≡ true → InOrder (fileOf state) memory out slot (thingsIn (fileOf state) (state .store .phase)) o
+        → Goes-on (polledTo state memory tick out o)
+    in-state (outcome given phase memory′ out′) kept ordered =
+        record {
+          file-kept = refl;
+          slot-kept = kept;
+          goes = goes-outcome (fileOf state) slot tick memory out state _ (outcome given phase memory′ out′) ordered;
+        }
+
+    handed : (moment : Passed) → Goes-on (polledTo state memory tick out (handOut (fileOf state) run tick moment memory out (run .next)))
+    handed moment =
+        let file = fileOf state in
+        let o = handOut file run tick moment memory out (run .next) in
+        let order = in-order file (state .store .slots) run tick memory out (valid-state state valid .good) (run-of state run valid at) moment in
+        let ordered : InOrder file memory out slot (thingsIn file (state .store .phase)) o = rw (at, ← eqb-true (run .slot) slot on-run) order in
+        in-state o (hands-on file slot tick memory out run on-run moment (run .next)) ordered
+
+  effect-on : {call : Call} {called : Called} → Effect state memory call called → turns (called .seen) ≡ false → Goes-on called
+  effect-on (effects.refuses call given e) f = stays-on call given (refused-hands given e) memory (outOf call)
+  effect-on (effects.reads call out′ e t) f = stays-on call (number 0) refl memory out′
+  effect-on (effects.draws call t picture e u may long) f = stays-on call (number 0) refl _ (outOf call)
+  effect-on (effects.starts t tick u may) f = absurd (false≢true (sym f))
+  effect-on (effects.abandons t is) f = absurd (false≢true (sym f))
+  effect-on (effects.waits tick out run moment at before) f =
+      record {
+        file-kept = refl;
+        slot-kept = on-run tick out run (at .runs);
+        goes = rw (at .runs) (nothing refl);
+      }
+  effect-on (effects.hands tick out run moment at due) f = handed tick out run (at .runs) moment
 
   call-on : (call : Call) → turns (callOn state memory call .seen) ≡ false → Goes-on (callOn state memory call)
-  call-on (uploadRegion t x y width height payload) f =
-      by-region state memory t x y width height payload
-      (λ r. Goes-on (ofReply (uploadRegion t x y width height payload) memory (r .0) (r .1)))
-      (λ number e. record { file-kept = refl; slot-kept = on; goes = nothing refl })
-      (λ fine. record { file-kept = refl; slot-kept = on; goes = nothing refl })
-  call-on (uploadBitmap t file) f =
-      by-bitmap state memory t file (λ r. Goes-on (ofReply (uploadBitmap t file) memory (r .0) (r .1)))
-      (λ number e. record { file-kept = refl; slot-kept = on; goes = nothing refl })
-      (λ fine. record { file-kept = refl; slot-kept = on; goes = nothing refl })
-  call-on (start t tick) f =
-      by-start state memory t tick (λ r. eqb (r .number) 0 ≡ false → Goes-on (ofReply (start t tick) memory r memory))
-      (λ number e g. record { file-kept = refl; slot-kept = on; goes = nothing refl })
-      (λ fine g. absurd (false≢true (sym g))) f
-  call-on (poll tick out) f = poll-on tick out
-  call-on abandon f =
-      by-abandon state memory (λ r. eqb (r .number) 0 ≡ false → Goes-on (ofReply abandon memory r memory))
-      (λ number e g. record { file-kept = refl; slot-kept = on; goes = nothing refl })
-      (λ fine g. absurd (false≢true (sym g))) f
-  call-on (writeBitmap t out) f =
-      by-write state memory t out (λ r. Goes-on (ofReply (writeBitmap t out) memory (r .0) memory))
-      (λ number e. record { file-kept = refl; slot-kept = on; goes = nothing refl })
-      (record { file-kept = refl; slot-kept = on; goes = nothing refl })
+  call-on call = effect-on (effect state memory call)
 
 -- ---- every list of calls
 
-all-on : (file : List ℕ) (slot : ℕ) (state : State) → fileOf state ≡ file → stateValid state ≡ true → runsOn (state .phase) slot ≡ true
+all-on : (file : List ℕ) (slot : ℕ) (state : State) → fileOf state ≡ file → stateValid state ≡ true → runsOn (state .store .phase) slot ≡ true
     → (memory : List ℕ) (calls : List Call) → noTurns (eventsOf state memory calls) ≡ true
-    → AllGo file slot (thingsIn file (state .phase)) (eventsOf state memory calls) (thingsIn file (stateAfter state memory calls .phase))
+    → AllGo file slot (thingsIn file (state .store .phase)) (eventsOf state memory calls) (thingsIn file (stateAfter state memory calls .store .phase))
 all-on file slot state e valid on memory [] f = none
 all-on file slot state e valid on memory (call ∷ calls) f =
     let now = callOn state memory call in
     let quiet = not-true _ (and-left (not (turns (now .seen))) (noTurns (eventsOf (now .state) (now .memory) calls)) f) in
     let one =
-    subst (λ (s : List ℕ). Onward s slot (thingsIn s (state .phase)) (callOn state memory call)) e
+    subst (λ (s : List ℕ). Onward s slot (thingsIn s (state .store .phase)) (callOn state memory call)) e
     (call-on state memory slot valid on call quiet) in
     more (one .goes)
-    (all-on file slot (now .state) (one .file-kept) (stays-valid state memory call valid) (one .slot-kept) (now .memory) calls
+    (all-on file slot (now .state) (one .file-kept) (stays-valid state memory valid call) (one .slot-kept) (now .memory) calls
     (and-right (not (turns (now .seen))) (noTurns (eventsOf (now .state) (now .memory) calls)) f))
 
 -- after an accepted start all of the run is to come, and the events go through it
@@ -171,14 +160,16 @@ pub run-in-order : (state : State) (memory : List ℕ) (slot : ℕ) (tick : Tick
     → starting state (length memory) slot tick .number ≡ 0
     → noTurns (eventsOf (starting state (length memory) slot tick .state) memory calls) ≡ true
     → AllGo (fileOf state) slot (thingsOfRun (fileOf state)) (eventsOf (starting state (length memory) slot tick .state) memory calls)
-    (thingsIn (fileOf state) (stateAfter (starting state (length memory) slot tick .state) memory calls .phase))
+    (thingsIn (fileOf state) (stateAfter (starting state (length memory) slot tick .state) memory calls .store .phase))
+unfolding starting
 run-in-order state memory slot tick calls accepted =
-    by-start state memory slot tick
-    (λ r.
+    by-cases
+    (λ (r : Reply).
     r .number ≡ 0 → stateValid (r .state) ≡ true → noTurns (eventsOf (r .state) memory calls) ≡ true
     → AllGo (fileOf state) slot (thingsOfRun (fileOf state)) (eventsOf (r .state) memory calls)
-    (thingsIn (fileOf state) (stateAfter (r .state) memory calls .phase)))
+    (thingsIn (fileOf state) (stateAfter (r .state) memory calls .store .phase)))
+    (startCases state (length memory) slot) (λ number. reply number state) (reply 0 (withPhase state (Running (begun slot tick)))) refl
     (λ number e z. absurd (eqb-false number 0 e z))
-    (λ fine z valid. all-on (fileOf state) slot _ refl valid (eq-eqb slot slot refl) memory calls)
+    (λ free z valid. all-on (fileOf state) slot _ refl valid (eq-eqb slot slot refl) memory calls)
     accepted
     (valid-kept state memory (start slot tick) (eq-eqb _ 0 accepted))

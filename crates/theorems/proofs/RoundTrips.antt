@@ -1,80 +1,81 @@
 -- Bitmap files through a slot: a file that was uploaded is written in normal form, and what was written, uploaded again to the slot
 -- that it came from, leaves the memory as it is. So a second time changes nothing.
 -- Assumes nothing.
-use mathlib.Core.Path.{_≡_, refl, ap, _∙_}
-use mathlib.Core.Bool.{false, not}
+use mathlib.Core.Path.{_≡_, refl, sym, ap, _∙_}
+use mathlib.Core.Bool.{true, false, not}
 use mathlib.Core.List.{List, _++_}
 use Prim.Native.Nat.{ℕ, _+_, _*_, _≤_, _<_}
-use native.Mathlib.Omega.{arith}
-use borrow.Author.Tests.{not-false, leb-true, ltb-false, le-leb, le-ltb, eqb-false}
-use lib.Dec.{eqb, leb}
-use lib.ListN.{length, take, drop}
+use borrow.Author.Tests.{not-false, eqb-false}
+use lib.ListN.{length, take}
 use Rattle.lists.specs.Lists.{overlay}
 use Rattle.lists.proofs.Lists.{take-overlay}
-use Rattle.lists.proofs.Parts.{more-rows, part-length}
-use Rattle.lists.proofs.Rules.{None, and-right, taken, by-cases}
-use Rattle.lists.proofs.Rules as rules
-use Rattle.settings.specs.Settings.{rowBytesIn, rowsIn, strideIn}
-use Rattle.picture.specs.Slots.{slotBytes, withBytes, slotPicture, withPicture}
-use Rattle.picture.proofs.Pictures.{Bytes, bytes-take, bytes-drop}
-use Rattle.picture.proofs.Slots.{Rows, raw-picture, rows-picture, with-own, length-with-picture, picture-same}
+use Rattle.lists.proofs.Rules.{None, none, past, taken, by-cases, none-parts, none-both}
+use Rattle.panel.specs.Facts.{Sized}
+use Rattle.panel.proofs.Panels.{size-of}
+use Rattle.settings.specs.Settings.{panelOf, rowBytesIn, rowsIn, strideIn}
+use Rattle.settings.proofs.Accepted.{good-panel}
+use Rattle.picture.specs.Slots.{slotPicture, withPicture}
+use Rattle.picture.proofs.Pictures.{Bytes}
+use Rattle.picture.proofs.Slots.{Rows, slot-fits, rows-slot, with-own-picture, length-with-picture, picture-same}
 use Rattle.bitmap.specs.Header.{fileLength}
 use Rattle.bitmap.specs.Bitmap.{bitmapGood, readPicture, writtenFile, normalForm}
 use Rattle.bitmap.proofs.RoundTrip.{length-file, rows-read, read-written, write-read, read-normal, good-written}
-use Rattle.board.specs.State.{fileOf, storeBytes}
-use Rattle.board.specs.Calls.{isRunsSlot, takesPictures, reply, uploadCases, bitmapCases, bitmapUpload, writeCases, bitmapWrite}
+use Rattle.board.specs.State.{fileOf, sizesOf, storeBytes, storeCases}
+use Rattle.board.specs.Calls.{isRunsSlot, reply, uploadOwn, uploadCases, bitmapCases, bitmapDrawn, bitmapUpload, writeOwn, writeCases, bitmapWritten, bitmapWrite}
 use Rattle.board.specs.declared.State.{State}
 use Rattle.board.specs.declared.Reply.{Reply}
-use Rattle.board.proofs.Cases.{by-bitmap}
-use Rattle.board.proofs.Stores.{passed, size-in}
-
--- ---- a picture through a slot
-
-module _ (b h : ℕ) (some : 0 < b) (memory : List ℕ) (slot : ℕ) (fits : slot * (h * b) + h * b ≤ length memory) (bytes : Bytes memory) where
-  rows-slot : Rows b h (slotBytes b h memory slot)
-  unfolding slotBytes
-  rows-slot = (part-length (slot * (h * b)) (h * b) memory fits, bytes-take (h * b) (drop (slot * (h * b)) memory) (bytes-drop (slot * (h * b)) memory bytes))
-
-  rows-picture-of : Rows b h (slotPicture b h memory slot)
-  unfolding slotPicture
-  rows-picture-of = rows-picture b h some (slotBytes b h memory slot) rows-slot
-
-  -- the picture that a slot holds, put into it
-  with-own-picture : withPicture b h memory slot (slotPicture b h memory slot) ≡ memory
-  unfolding withPicture slotPicture
-  with-own-picture =
-      ap (withBytes b h memory slot) (raw-picture b h some (slotBytes b h memory slot) rows-slot) ∙ with-own b h memory slot fits
-
--- ---- the calls
+use Rattle.board.proofs.States.{Tested, tested, store-free, valid-state}
+use Rattle.board.proofs.Tests.{Uploadable, uploadable, upload-free, Writable, writable, write-free}
 
 module _ (state : State) where
   abbrev b : ℕ
-  b = rowBytesIn (fileOf state)
+  b = sizesOf state .bytes
 
   abbrev h : ℕ
-  h = rowsIn (fileOf state)
+  h = sizesOf state .rows
 
   abbrev s : ℕ
-  s = strideIn (fileOf state)
+  s = sizesOf state .stride
 
   module _ (memory : List ℕ) (slot : ℕ) where
-    slot-fits : length memory ≡ storeBytes (fileOf state) (state .slots) → slot ≤ state .slots → slot * (h * b) + h * b ≤ length memory
-    slot-fits exact le = rw exact (more-rows slot (state .slots + 1) (h * b) (omega arith))
+    -- ---- the two calls where nothing refuses them
 
-    -- the two calls where nothing refuses them
-    writes : (out : List ℕ) → None (writeCases state (length memory) slot (length out))
-        → bitmapWrite state memory slot out ≡ (reply 0 state, overlay (writtenFile b h s (slotPicture b h memory slot)) out)
+    writes : (out : List ℕ) → Tested state (length memory) → Writable (state .store) (sizesOf state) slot (length out)
+        → bitmapWrite state memory slot out ≡ (reply 0 state, bitmapWritten (sizesOf state) memory slot out)
     unfolding bitmapWrite
-    writes out fine =
+    writes out t may =
         taken (writeCases state (length memory) slot (length out)) (λ number. (reply number state, out))
-        (reply 0 state, overlay (writtenFile b h s (slotPicture b h memory slot)) out) fine
+        (reply 0 state, bitmapWritten (sizesOf state) memory slot out)
+        (none-both (store-free state (length memory) t) (write-free (state .store) (sizesOf state) slot (length out) may))
 
-    uploads : (file : List ℕ) → None (uploadCases state (length memory) slot ++ bitmapCases (fileOf state) file)
-        → bitmapUpload state memory slot file ≡ (reply 0 state, withPicture b h memory slot (readPicture b h s file))
+    uploads : (file : List ℕ) → Tested state (length memory) → Uploadable (state .store) slot → bitmapGood b h s file ≡ true
+        → bitmapUpload state memory slot file ≡ (reply 0 state, bitmapDrawn (sizesOf state) memory slot file)
     unfolding bitmapUpload
-    uploads file fine =
-        taken (uploadCases state (length memory) slot ++ bitmapCases (fileOf state) file) (λ number. (reply number state, memory))
-        (reply 0 state, withPicture b h memory slot (readPicture b h s file)) fine
+    uploads file t may good =
+        taken (uploadCases state (length memory) slot ++ bitmapCases (sizesOf state) file) (λ number. (reply number state, memory))
+        (reply 0 state, bitmapDrawn (sizesOf state) memory slot file)
+        (none-both (none-both (store-free state (length memory) t) (upload-free (state .store) slot may)) (past (ap not good) none))
+
+    -- what holds of an accepted bitmap upload
+    accepted-upload : (file : List ℕ) (P : Reply × List ℕ → Type 0)
+        → (Tested state (length memory) → Uploadable (state .store) slot → P (reply 0 state, bitmapDrawn (sizesOf state) memory slot file))
+        → bitmapUpload state memory slot file .0 .number ≡ 0 → P (bitmapUpload state memory slot file)
+    unfolding bitmapUpload
+    accepted-upload file P then =
+        by-cases (λ (r : Reply × List ℕ). r .0 .number ≡ 0 → P r)
+        (uploadCases state (length memory) slot ++ bitmapCases (sizesOf state) file) (λ number. (reply number state, memory))
+        (reply 0 state, bitmapDrawn (sizesOf state) memory slot file) refl
+        (λ number e z. absurd (eqb-false number 0 e z))
+        (λ free z.
+        let upload = none-parts (uploadCases state (length memory) slot) (bitmapCases (sizesOf state) file) free .0 in
+        let parts = none-parts (storeCases state (length memory)) (uploadOwn (state .store) slot) upload in
+        then (tested state (length memory) (parts .0)) (uploadable (state .store) slot (parts .1)))
+
+    size : Tested state (length memory) → Sized (sizesOf state)
+    size t = size-of (panelOf (fileOf state)) (good-panel (fileOf state) (valid-state state (t .valid) .good))
+
+    fits : Tested state (length memory) → slot ≤ state .store .slots → slot * (h * b) + h * b ≤ length memory
+    fits t le = slot-fits b h (state .store .slots) (length memory) (t .exact) slot le
 
   -- ---- the round trips
 
@@ -85,9 +86,8 @@ module _ (state : State) where
         → bitmapWrite (bitmapUpload state memory slot file .0 .state) (bitmapUpload state memory slot file .1) slot out
         ≡ (reply 0 state, overlay (normalForm (rowBytesIn (fileOf state)) (rowsIn (fileOf state)) (strideIn (fileOf state)) file) out)
     upload-write file out bytes accepted room =
-        by-bitmap state memory slot file
-        (λ r. r .0 .number ≡ 0 → bitmapWrite (r .0 .state) (r .1) slot out ≡ (reply 0 state, overlay (normalForm b h s file) out))
-        (λ number e z. absurd (eqb-false number 0 e z)) stored accepted
+        accepted-upload memory slot file
+        (λ r. bitmapWrite (r .0 .state) (r .1) slot out ≡ (reply 0 state, overlay (normalForm b h s file) out)) stored accepted
       where
         picture : List ℕ
         picture = readPicture b h s file
@@ -95,23 +95,19 @@ module _ (state : State) where
         after : List ℕ
         after = withPicture b h memory slot picture
 
-        stored : None (uploadCases state (length memory) slot ++ bitmapCases (fileOf state) file) → _≡_ {A = ℕ} 0 0
+        stored : Tested state (length memory) → Uploadable (state .store) slot
             → bitmapWrite state after slot out ≡ (reply 0 state, overlay (normalForm b h s file) out)
-        stored (rules.past valid (rules.past exact (rules.past takes rest))) z =
-            let ok = passed state memory valid exact in
-            let size = size-in (fileOf state) (ok .good) in
-            let high : slot ≤ state .slots = leb-true _ _ (and-right (leb 1 slot) (leb slot (state .slots)) (not-false _ takes)) in
-            let fits = slot-fits memory slot (ok .exact) high in
+        stored t may =
+            let z = size memory slot t in
+            let inside = fits memory slot t (may .takes .high) in
             let rows : Rows b h picture = rows-read b h s file bytes in
-            let same : length after ≡ length memory = length-with-picture b h memory slot fits (size .some) picture rows in
-            let sized : not (eqb (length after) (storeBytes (fileOf state) (state .slots))) ≡ false = rw same exact in
-            writes after slot out
-            (rules.past valid (rules.past sized (rules.past (le-ltb _ _ high) (rules.past (le-ltb _ _ room) rules.none))))
-            ∙ rw (picture-same b h memory slot fits (size .some) picture rows, write-read b h s (size .some) (size .within) file)
+            let same : length after ≡ length memory = length-with-picture b h memory slot inside (z .some) picture rows in
+            writes after slot out (record { valid = t .valid; exact = same ∙ t .exact }) (record { high = may .takes .high; room = room })
+            ∙ rw (picture-same b h memory slot inside (z .some) picture rows, write-read b h s (z .some) (z .within) file)
 
     -- what the writer made of a slot that takes uploads, uploaded again to that slot: the memory stays
     pub write-upload : (out : List ℕ) → Bytes memory → bitmapWrite state memory slot out .0 .number ≡ 0
-        → 1 ≤ slot → isRunsSlot (state .phase) slot ≡ false
+        → 1 ≤ slot → isRunsSlot (state .store .phase) slot ≡ false
         → bitmapUpload state memory slot
         (take (fileLength (rowsIn (fileOf state)) (strideIn (fileOf state))) (bitmapWrite state memory slot out .1))
         ≡ (reply 0 state, memory)
@@ -120,7 +116,7 @@ module _ (state : State) where
         by-cases
         (λ (r : Reply × List ℕ). r .0 .number ≡ 0 → bitmapUpload state memory slot (take (fileLength h s) (r .1)) ≡ (reply 0 state, memory))
         (writeCases state (length memory) slot (length out)) (λ number. (reply number state, out))
-        (reply 0 state, overlay (writtenFile b h s (slotPicture b h memory slot)) out) refl
+        (reply 0 state, bitmapWritten (sizesOf state) memory slot out) refl
         (λ number e z. absurd (eqb-false number 0 e z)) written accepted
       where
         picture : List ℕ
@@ -131,38 +127,28 @@ module _ (state : State) where
 
         written : None (writeCases state (length memory) slot (length out)) → _≡_ {A = ℕ} 0 0
             → bitmapUpload state memory slot (take (fileLength h s) (overlay file out)) ≡ (reply 0 state, memory)
-        written (rules.past valid (rules.past exact (rules.past in-store rest))) z =
-            let ok = passed state memory valid exact in
-            let size = size-in (fileOf state) (ok .good) in
-            let high : slot ≤ state .slots = ltb-false _ _ in-store in
-            let fits = slot-fits memory slot (ok .exact) high in
-            let takes : not (takesPictures (state .slots) slot) ≡ false = rw (le-leb 1 slot low, le-leb slot (state .slots) high) in
-            let good : not (bitmapGood b h s file) ≡ false = rw (good-written b h s size picture) in
-            let is : take (fileLength h s) (overlay file out) ≡ file =
-            rw (← length-file b h s picture) (take-overlay file out) in
-            let long : length picture ≡ h * b = rows-picture-of b h (size .some) memory slot fits bytes .0 in
+        written all y =
+            let parts = none-parts (storeCases state (length memory)) (writeOwn (state .store) (sizesOf state) slot (length out)) all in
+            let t = tested state (length memory) (parts .0) in
+            let high = writable (state .store) (sizesOf state) slot (length out) (parts .1) .high in
+            let z = size memory slot t in
+            let inside = fits memory slot t high in
+            let good = good-written b h s (z .narrow) (z .low) (z .small) picture in
+            let is : take (fileLength h s) (overlay file out) ≡ file = rw (← length-file b h s picture) (take-overlay file out) in
+            let long : length picture ≡ h * b = rows-slot b h memory slot inside (z .some) bytes .0 in
             ap (bitmapUpload state memory slot) is
-            ∙ uploads memory slot file
-            (rules.past valid (rules.past exact (rules.past takes (rules.past free (rules.past good rules.none)))))
-            ∙ rw (read-written b h s (size .some) (size .within) picture long, with-own-picture b h (size .some) memory slot fits bytes)
+            ∙ uploads memory slot file t (record { takes = record { low = low; high = high }; not-runs = free }) good
+            ∙ rw (read-written b h s (z .some) (z .within) picture long, with-own-picture b h memory slot inside (z .some) bytes)
 
     -- the normal form of an accepted file does the same as the file
     pub upload-normal : (file : List ℕ) → bitmapUpload state memory slot file .0 .number ≡ 0
         → bitmapUpload state memory slot (normalForm (rowBytesIn (fileOf state)) (rowsIn (fileOf state)) (strideIn (fileOf state)) file)
         ≡ bitmapUpload state memory slot file
-    upload-normal file accepted =
-        by-bitmap state memory slot file
-        (λ r. r .0 .number ≡ 0 → bitmapUpload state memory slot (normalForm b h s file) ≡ r)
-        (λ number e z. absurd (eqb-false number 0 e z)) again accepted
-      where
-        again : None (uploadCases state (length memory) slot ++ bitmapCases (fileOf state) file) → _≡_ {A = ℕ} 0 0
-            → bitmapUpload state memory slot (normalForm b h s file)
-            ≡ (reply 0 state, withPicture b h memory slot (readPicture b h s file))
-        again (rules.past valid (rules.past exact (rules.past takes (rules.past free rest)))) z =
-            let size = size-in (fileOf state) (passed state memory valid exact .good) in
-            let form = write-read b h s (size .some) (size .within) file in
-            let good : not (bitmapGood b h s (normalForm b h s file)) ≡ false =
-            rw (← form, good-written b h s size (readPicture b h s file)) in
-            uploads memory slot (normalForm b h s file)
-            (rules.past valid (rules.past exact (rules.past takes (rules.past free (rules.past good rules.none)))))
-            ∙ rw (read-normal b h s (size .some) (size .within) file)
+    upload-normal file =
+        accepted-upload memory slot file (λ r. bitmapUpload state memory slot (normalForm b h s file) ≡ r)
+        (λ t may.
+        let z = size memory slot t in
+        let form = write-read b h s (z .some) (z .within) file in
+        let good : bitmapGood b h s (normalForm b h s file) ≡ true =
+        rw (← form) (good-written b h s (z .narrow) (z .low) (z .small) (readPicture b h s file)) in
+        uploads memory slot (normalForm b h s file) t may good ∙ rw (read-normal b h s (z .some) (z .within) file))

@@ -1,4 +1,4 @@
--- Laws of the things of a run: the next write is the first of the writes, and what comes behind a line is what its next position has.
+-- Laws of the things of a run: the next write is the first of the writes, and what comes after a line is what its next position has.
 -- Assumes nothing.
 use mathlib.Core.Path.{_≡_, refl, sym, ap, _∙_}
 use mathlib.Core.Bool.{true, false≢true}
@@ -46,10 +46,10 @@ first-write (wait ms ∷ steps) step rest all e = first-write steps step rest al
 first-write (write register bytes ∷ steps) step rest all e = cc
 first-write (malformed ∷ steps) step rest all e = absurd (false≢true all)
 
--- the steps behind it are those that its count leaves
-pub behind-write : (steps : List Step) (k : ℕ) (step : Step) (rest : List Step) → fromWrite (drop k steps) ≡ step ∷ rest
+-- the steps after it are those that its count leaves
+pub after-write : (steps : List Step) (k : ℕ) (step : Step) (rest : List Step) → fromWrite (drop k steps) ≡ step ∷ rest
     → drop (length steps - length rest) steps ≡ rest
-behind-write steps k step rest e =
+after-write steps k step rest e =
     let front : List Step = (take k steps ++ waitsPart (drop k steps)) ++ (step ∷ []) in
     let split : front ++ rest ≡ steps =
     append-assoc (take k steps ++ waitsPart (drop k steps)) (step ∷ []) rest
@@ -87,7 +87,7 @@ module _ (h N : ℕ) (rest : List Thing) where
   lines-begin some =
       append-assoc (framesFrom h 1 0 N) (stagesFrom h N 2 3) rest ∙ stage-begins 1 (stagesFrom h N 2 3 ++ rest) some
 
-  -- behind a line: the next row, else the next frame, else the next stage, else what follows the lines
+  -- after a line: the next row, else the next frame, else the next stage, else what follows the lines
   module _ (stage frame row : ℕ) where
     row-more : row + 1 < h → linesFrom stage frame row ≡ aLine stage frame row ∷ linesFrom stage frame (row + 1)
     row-more r =

@@ -13,8 +13,8 @@ use Rattle.run.specs.declared.Position.the-variants.{Start, Line, Stop}
 use Rattle.poll.specs.HandOut.{Outcome, outcome, stepBytes, lineBytes}
 use Rattle.poll.specs.declared.Answer.{Answer}
 use Rattle.poll.specs.declared.Answer.the-variants as answer
-use Rattle.poll.specs.declared.Phase.{Phase}
-use Rattle.poll.specs.declared.Phase.the-variants.{Idle, Abandoned, Running}
+use Rattle.run.specs.declared.Phase.{Phase}
+use Rattle.run.specs.declared.Phase.the-variants.{Idle, Abandoned, Running}
 
 -- a register write, the line of a row in a frame of a stage, or the end of the run
 pub data Thing : Type 0 where
@@ -98,9 +98,9 @@ pub record HandsFirst (file memory out : List ℕ) (slot : ℕ) (toCome : List T
 abbrev pub InOrder : (file memory out : List ℕ) (slot : ℕ) (toCome : List Thing) → Outcome → Type 0
 InOrder file memory out slot toCome (outcome (answer.Refused number) phase memory′ out′) = thingsIn file phase ≡ toCome
 InOrder file memory out slot toCome (outcome (answer.Wait ms) phase memory′ out′) = thingsIn file phase ≡ toCome
-InOrder file memory out slot toCome (outcome (answer.Write length) phase memory′ out′) =
-    HandsFirst file memory out slot toCome (answer.Write length) phase out′
-InOrder file memory out slot toCome (outcome (answer.Line length) phase memory′ out′) =
-    HandsFirst file memory out slot toCome (answer.Line length) phase out′
+InOrder file memory out slot toCome (outcome (answer.Write n) phase memory′ out′) =
+    HandsFirst file memory out slot toCome (answer.Write n) phase out′
+InOrder file memory out slot toCome (outcome (answer.Line n) phase memory′ out′) =
+    HandsFirst file memory out slot toCome (answer.Line n) phase out′
 InOrder file memory out slot toCome (outcome answer.Done phase memory′ out′) =
     HandsFirst file memory out slot toCome answer.Done phase out′

@@ -7,7 +7,7 @@ use mathlib.Core.List.{List, [], _∷_}
 use Rattle.poll.specs.HandOut.{Outcome, outcome}
 use Rattle.poll.specs.declared.Answer.{Answer}
 use Rattle.poll.specs.declared.Answer.the-variants as answer
-use Rattle.board.specs.History.{Call, uploadRegion, uploadBitmap, start, poll, abandon, writeBitmap, Given, number, answered, isAccepted, Event, event, callOn}
+use Rattle.board.specs.History.{Call, Part, starts, polls, abandons, noPart, partOf, Given, number, answered, isAccepted, Event, event, callOn}
 use Rattle.theorems.specs.Order.{Thing, thingBytes, thingAnswer}
 use Rattle.board.specs.declared.State.{State}
 
@@ -15,8 +15,8 @@ use Rattle.board.specs.declared.State.{State}
 abbrev pub isHandOut : Answer → Bool
 isHandOut (answer.Refused n) = false
 isHandOut (answer.Wait ms) = false
-isHandOut (answer.Write length) = true
-isHandOut (answer.Line length) = true
+isHandOut (answer.Write n) = true
+isHandOut (answer.Line n) = true
 isHandOut answer.Done = true
 
 abbrev pub handsOut : Given → Bool
@@ -37,13 +37,14 @@ pub data AllGo (file : List ℕ) (slot : ℕ) : List Thing → List Event → Li
       → AllGo file slot toCome (e ∷ es) rest
 
 -- an accepted start or abandon, after which another run is under way, or none
+abbrev pub turnsBy : Part → Given → Bool
+turnsBy (starts slot) given = isAccepted given
+turnsBy polls given = false
+turnsBy abandons given = isAccepted given
+turnsBy noPart given = false
+
 abbrev pub turns : Event → Bool
-turns (event (uploadRegion slot x y width height payload) memory given put) = false
-turns (event (uploadBitmap slot file) memory given put) = false
-turns (event (start slot tick) memory given put) = isAccepted given
-turns (event (poll tick out) memory given put) = false
-turns (event abandon memory given put) = isAccepted given
-turns (event (writeBitmap slot out) memory given put) = false
+turns (event call memory given put) = turnsBy (partOf call) given
 
 abbrev pub noTurns : List Event → Bool
 noTurns [] = true

@@ -65,7 +65,7 @@ is-marked : (t : Bool) → eqb (cond t 0b11 0) 0b11 ≡ t
 is-marked true = refl
 is-marked false = refl
 
--- ---- the bytes of a line, with anything behind it
+-- ---- the bytes of a line, with anything after it
 
 past : (xs ys : List ℕ) (n i : ℕ) → length xs ≡ n → getD (xs ++ ys) (n + i) 0 ≡ getD ys i 0
 past xs ys n i e = rw e at (getD-append-add xs ys i 0)

@@ -1,6 +1,5 @@
--- The rows are written right behind the header.
+-- The rows are written right after the header.
 -- Assumes nothing.
-use mathlib.Core.Path.{refl}
 use native.Mathlib.Omega.{arith}
 use borrow.Author.Needs.{needs}
 use Rattle.picture.specs.Slots.{pictureOf}
@@ -17,11 +16,8 @@ write-header-requires c κs = search needs
 write-rows-requires : tie.Need-write-rows-requires
 write-rows-requires c κs = search needs
 
-mul-result : tie.Need-mul-result
-mul-result c = search needs
-
-add-result : tie.Need-add-result
-add-result c = search needs
+file-length-requires : tie.Need-file-length-requires
+file-length-requires c κs = search needs
 
 same-length : tie.Need-same-length
 same-length c = search needs
@@ -29,12 +25,12 @@ same-length c = search needs
 returns : tie.Need-returns
 unfolding writtenFile
 returns c =
-    let c₂ = c .before .before in
+    let c₂ = c .before .before .before in
     let c₁ = c₂ .before .before .before .before in
     let a = c₁ .before .before .before .before .args in
     let rows = fileRows (a .b) (a .h) (a .s) (pictureOf (a .b) (a .h) (a .raw .now)) in
     let l = length-header (a .b) (a .h) (a .s) in (
-      refl,
+      c .file-length .ensures,
       part-next 0 (a .out .now) (header (a .b) (a .h) (a .s)) rows headerLength (c₁ .write-header .ensures) (c₂ .write-rows .ensures)
           (omega arith) (omega arith),
     )
@@ -42,4 +38,4 @@ returns c =
 pub write-bitmap-spec : {M : Type 1} → statement M
 write-bitmap-spec =
     tie.close
-    (tie.spec write-header-requires write-rows-requires mul-result add-result same-length returns)
+    (tie.spec write-header-requires write-rows-requires file-length-requires same-length returns)

@@ -1,4 +1,4 @@
--- The padding is written right behind the row.
+-- The padding is written right after the row.
 -- Assumes nothing.
 use mathlib.Core.Path.{_≡_}
 use mathlib.Core.List.{List}

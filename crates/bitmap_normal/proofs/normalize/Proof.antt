@@ -13,13 +13,15 @@ bitmap-good-requires c κs = search needs
 
 returns : tie.Need-returns
 returns c =
-    let a = c .before .before .before .before .before .args in
-    refused (a .b) (a .h) (a .s) (c .before .before .before .before .before .pre .0) (c .before .before .before .before .before .pre .2) (a .file .now) (a .out .now) (sym (c .before .bitmap-good .ensures) ∙ not-true _ (c .if1 .taken))
+    let s = c .before .before .before .before .before in
+    let a = s .args in
+    refused (a .b) (a .h) (a .s) (s .pre .0) (s .pre .2) (a .file .now) (a .out .now) (sym (c .before .bitmap-good .ensures) ∙ not-true _ (c .if1 .taken))
 
 read-bitmap-requires : tie.Need-read-bitmap-requires
 read-bitmap-requires c κs =
-    let a = c .before .before .before .before .before .before .args in
-    let p = c .before .before .before .before .before .before .pre in
+    let s = c .before .before .before .before .before .before in
+    let a = s .args in
+    let p = s .pre in
     let l = good-length (a .b) (a .h) (a .s) (a .file .now) (sym (c .before .before .bitmap-good .ensures) ∙ not-false _ (c .before .if1 .left)) in
     (p .0, p .1, p .2, p .3, p .4, p .5, omega (arith, l))
 
@@ -34,13 +36,18 @@ same-length-2 c = search needs
 
 returns-2 : tie.Need-returns-2
 returns-2 c =
-    let a = c .before .before .before .before .before .before .before .before .before .before .before .before .before .before .args in
-    rewritten (a .b) (a .h) (a .s) (c .before .before .before .before .before .before .before .before .before .before .before .before .before .before .pre .0) (c .before .before .before .before .before .before .before .before .before .before .before .before .before .before .pre .2) (a .file .now) (a .out .now) _ _ _
-    (sym (c .before .before .before .before .before .before .before .before .before .before .bitmap-good .ensures) ∙ not-false _ (c .before .before .before .before .before .before .before .before .before .if1 .left))
-    (λ k. omega (arith, c .before .before .before .before .before .before .before .before .before .before .before .before .before .shared-slice-known .given k))
-    (c .before .before .before .before .before .before .before .read-bitmap .ensures)
-    (c .before .before .write-bitmap .ensures .0)
-    (c .before .before .write-bitmap .ensures .1)
+    let w = c .before .before in
+    let r = w .before .before .before .before .before in
+    let t = r .before .before in
+    let k = t .before .before .before .before in
+    let s = k .before in
+    let a = s .args in
+    rewritten (a .b) (a .h) (a .s) (s .pre .0) (s .pre .2) (a .file .now) (a .out .now) _ _ _
+    (sym (t .before .bitmap-good .ensures) ∙ not-false _ (t .if1 .left))
+    (λ i. omega (arith, k .shared-slice-known .given i))
+    (r .read-bitmap .ensures)
+    (w .write-bitmap .ensures .0)
+    (w .write-bitmap .ensures .1)
 
 pub normalize-spec : {M : Type 1} → statement M
 normalize-spec =

@@ -28,29 +28,40 @@ rows-requires : tie.Need-rows-requires
 rows-requires c κs = search needs
 
 mul-size : tie.Need-mul-size
-mul-size c = rw (c .rows .ensures .0, c .before .row-bytes .ensures .0) (fits-below {n = 5808} tt (fits (c .before .before .before .before .before .before .args .panel) (c .before .before .before .before .before .before .pre .0) .picture))
+mul-size c =
+    let s = c .before .before .before .before .before .before in
+    rw (c .rows .ensures .0, c .before .row-bytes .ensures .0) (fits-below {n = 5808} tt (fits (s .args .panel) (s .pre .0) .picture))
 
 stride-requires : tie.Need-stride-requires
 stride-requires c κs = search needs
 
 slice-aggregate-normalize : tie.Need-slice-aggregate-normalize
 slice-aggregate-normalize c =
-    let room : c .before .before .rows .result * c .before .before .before .row-bytes .result ≤ length (c .before .before .before .before .before .largest-picture .result) =
-    rw (c .before .before .rows .ensures .0, c .before .before .before .row-bytes .ensures .0, ← c .before .before .before .before .before .largest-picture .ensures) (fits (c .before .before .before .before .before .before .before .before .args .panel) (c .before .before .before .before .before .before .before .before .pre .0) .picture) in
+    let h = c .before .before in
+    let b = h .before in
+    let l = b .before .before in
+    let s = l .before .before .before in
+    let room : h .rows .result * b .row-bytes .result ≤ length (l .largest-picture .result) =
+    rw (h .rows .ensures .0, b .row-bytes .ensures .0, ← l .largest-picture .ensures) (fits (s .args .panel) (s .pre .0) .picture) in
     sym (length-take-le _ _ room)
 
 normalize-requires : tie.Need-normalize-requires
 normalize-requires c κs =
-    let room : c .before .before .before .rows .result * c .before .before .before .before .row-bytes .result ≤ length (c .before .before .before .before .before .before .largest-picture .result) =
-    rw (c .before .before .before .rows .ensures .0, c .before .before .before .before .row-bytes .ensures .0, ← c .before .before .before .before .before .before .largest-picture .ensures) (fits (c .before .before .before .before .before .before .before .before .before .args .panel) (c .before .before .before .before .before .before .before .before .before .pre .0) .picture) in
-    let z = size-of (c .before .before .before .before .before .before .before .before .before .args .panel) (c .before .before .before .before .before .before .before .before .before .pre .0) in (
+    let h = c .before .before .before in
+    let b = h .before in
+    let l = b .before .before in
+    let s = l .before .before .before in
+    let fit = fits (s .args .panel) (s .pre .0) in
+    let z = size-of (s .args .panel) (s .pre .0) in
+    let room : h .rows .result * b .row-bytes .result ≤ length (l .largest-picture .result) =
+    rw (h .rows .ensures .0, b .row-bytes .ensures .0, ← l .largest-picture .ensures) (fit .picture) in (
       omega (arith, z .some),
       omega arith,
       omega (arith, z .within),
       omega arith,
       omega arith,
       length-take-le _ _ room,
-      rw (c .before .before .before .rows .ensures .0, c .before .before .stride .ensures .0) (omega (arith, fits (c .before .before .before .before .before .before .before .before .before .args .panel) (c .before .before .before .before .before .before .before .before .before .pre .0) .file)),
+      rw (h .rows .ensures .0, c .before .before .stride .ensures .0) (omega (arith, fit .file)),
     )
 
 same-length : tie.Need-same-length
@@ -58,9 +69,15 @@ same-length c = search needs
 
 returns : tie.Need-returns
 returns c =
-    let e : _≡_ {A = ℕ × List ℕ} (c .before .before .before .normalize .result, _) (normalized (rowBytesOf (c .before .before .before .before .before .before .before .before .before .before .before .before .before .args .panel)) (rowsOf (c .before .before .before .before .before .before .before .before .before .before .before .before .before .args .panel)) (strideOf (c .before .before .before .before .before .before .before .before .before .before .before .before .before .args .panel)) (c .before .before .before .before .before .before .before .before .before .before .before .before .before .args .file .now) (c .before .before .before .before .before .before .before .before .before .before .before .before .before .args .out .now)) =
-    rw (c .before .before .before .before .before .before .before .rows .ensures .0, c .before .before .before .before .before .before .before .before .row-bytes .ensures .0, c .before .before .before .before .before .before .stride .ensures .0) at (c .before .before .before .normalize .ensures) in
-    (omega (arith, normalized-le _ _ _ _ _ _ _ e, fits (c .before .before .before .before .before .before .before .before .before .before .before .before .before .args .panel) (c .before .before .before .before .before .before .before .before .before .before .before .before .before .pre .0) .file), e)
+    let n = c .before .before .before in
+    let w = n .before .before .before in
+    let h = w .before in
+    let b = h .before in
+    let s = b .before .before .before .before .before in
+    let a = s .args in
+    let e : _≡_ {A = ℕ × List ℕ} (n .normalize .result, _) (normalized (rowBytesOf (a .panel)) (rowsOf (a .panel)) (strideOf (a .panel)) (a .file .now) (a .out .now)) =
+    rw (h .rows .ensures .0, b .row-bytes .ensures .0, w .stride .ensures .0) at (n .normalize .ensures) in
+    (omega (arith, normalized-le _ _ _ _ _ _ _ e, fits (a .panel) (s .pre .0) .file), e)
 
 pub normalize-for-spec : {M : Type 1} → statement M
 normalize-for-spec =

@@ -1,7 +1,6 @@
--- `open`, by its number.
--- Assumes nothing.
+-- `open`, by its number. Assumes nothing.
 use denote.Ref.{now}
-use Rattle.board.proofs.OpenReply.{open-refused, open-short, open-accepted}
+use Rattle.board.proofs.Replies.{open-refused, open-short, open-accepted}
 use borrow.Author.Needs.{needs}
 use Rattle.board.proofs.open.Statement.{statement}
 use Rattle.board.proofs.open.Tie as tie
@@ -15,8 +14,7 @@ empty-state-requires c κs = search needs
 returns : tie.Need-returns
 returns c =
     let a = c .before .before .before .before .before .args in
-    search
-    (needs, open-refused (now (a .file)) (a .n) (now (a .memory)) (c .before .before .open-number .ensures) (c .empty-state .ensures) (c .before .if1 .taken))
+    search (needs, open-refused (now (a .file)) (a .n) (now (a .memory)) (c .before .before .open-number .ensures) (c .empty-state .ensures) (c .before .if1 .taken))
 
 fill-at-requires : tie.Need-fill-at-requires
 fill-at-requires c κs = search needs

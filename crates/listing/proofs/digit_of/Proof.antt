@@ -1,3 +1,5 @@
+-- Below ten a digit is 0 to 9, from ten on A to F.
+-- Assumes nothing.
 use borrow.Author.Tests.{lt-ltb, le-ltb}
 use borrow.Author.Needs.{needs}
 use Rattle.listing.proofs.digit_of.Statement.{statement}

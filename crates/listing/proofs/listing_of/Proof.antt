@@ -12,7 +12,7 @@ put-listing-requires : tie.Need-put-listing-requires
 put-listing-requires c κs = search needs
 
 returns : tie.Need-returns
-returns c = rw (c .before .put-listing .ensures .whole, c .before .put-listing .ensures .behind, zero-add)
+returns c = rw (c .before .put-listing .ensures .whole, c .before .put-listing .ensures .end, zero-add)
 
 pub listing-of-spec : {M : Type 1} → statement M
 listing-of-spec = tie.close (tie.spec slice-aggregate-put-listing put-listing-requires returns)

@@ -19,7 +19,10 @@ same-length : tie.Need-same-length
 same-length c = search needs
 
 returns : tie.Need-returns
-returns c = appended-as (decimal-1 (c .before .before .before .before .before .before .before .before .args .n) (c .before .before .before .before .before .before .last-digit .ensures) (c .before .before .before .before .before .if1 .taken)) (c .before .before .put-text .ensures)
+returns c =
+    let ones = c .before .before .before .before .before .before in
+    let digits = decimal-1 (ones .before .before .args .n) (ones .last-digit .ensures) (c .before .before .before .before .before .if1 .taken) in
+    appended-as digits (c .before .before .put-text .ensures)
 
 last-digit-requires-2 : tie.Need-last-digit-requires-2
 last-digit-requires-2 c κs = search needs
@@ -35,7 +38,10 @@ same-length-2 c = search needs
 
 returns-2 : tie.Need-returns-2
 returns-2 c =
-    appended-as (decimal-2 (c .before .before .before .before .before .before .before .before .before .before .args .n) (c .before .before .before .before .before .before .before .before .last-digit .ensures) (c .before .before .before .before .before .before .last-digit2 .ensures) (c .before .before .before .before .before .before .before .if1 .left) (c .before .before .before .before .before .if2 .taken)) (c .before .before .put-text2 .ensures)
+    let tens = c .before .before .before .before .before .before in
+    let ones = tens .before .before in
+    let digits = decimal-2 (ones .before .before .args .n) (ones .last-digit .ensures) (tens .last-digit2 .ensures) (tens .before .if1 .left) (c .before .before .before .before .before .if2 .taken) in
+    appended-as digits (c .before .before .put-text2 .ensures)
 
 last-digit-requires-3 : tie.Need-last-digit-requires-3
 last-digit-requires-3 c κs = search needs
@@ -51,9 +57,11 @@ same-length-3 c = search needs
 
 returns-3 : tie.Need-returns-3
 returns-3 c =
-    appended-as
-    (decimal-3 (c .before .before .before .before .before .before .before .before .before .before .before .before .args .n) (c .before .before .before .before .before .before .before .before .before .before .last-digit .ensures) (c .before .before .before .before .before .before .before .before .last-digit2 .ensures) (c .before .before .before .before .before .before .before .before .before .if1 .left) (c .before .before .before .before .before .before .last-digit3 .ensures) (c .before .before .before .before .before .before .before .if2 .left) (c .before .before .before .before .before .if3 .taken))
-    (c .before .before .put-text3 .ensures)
+    let hundreds = c .before .before .before .before .before .before in
+    let tens = hundreds .before .before in
+    let ones = tens .before .before in
+    let digits = decimal-3 (ones .before .before .args .n) (ones .last-digit .ensures) (tens .last-digit2 .ensures) (tens .before .if1 .left) (hundreds .last-digit3 .ensures) (hundreds .before .if2 .left) (c .before .before .before .before .before .if3 .taken) in
+    appended-as digits (c .before .before .put-text3 .ensures)
 
 last-digit-requires-4 : tie.Need-last-digit-requires-4
 last-digit-requires-4 c κs = search needs
@@ -69,9 +77,12 @@ same-length-4 c = search needs
 
 returns-4 : tie.Need-returns-4
 returns-4 c =
-    appended-as
-    (decimal-4 (c .before .before .before .before .before .before .before .before .before .before .before .before .before .args .n) (c .before .before .before .before .before .before .before .before .before .before .before .last-digit .ensures) (c .before .before .before .before .before .before .before .before .before .last-digit2 .ensures) (c .before .before .before .before .before .before .before .before .before .before .if1 .left) (c .before .before .before .before .before .before .before .last-digit3 .ensures) (c .before .before .before .before .before .before .before .before .if2 .left) (c .before .before .before .before .before .last-digit4 .ensures) (c .before .before .before .before .before .before .if3 .left))
-    (c .before .before .put-text4 .ensures)
+    let thousands = c .before .before .before .before .before in
+    let hundreds = thousands .before .before in
+    let tens = hundreds .before .before in
+    let ones = tens .before .before in
+    let digits = decimal-4 (ones .before .before .args .n) (ones .last-digit .ensures) (tens .last-digit2 .ensures) (tens .before .if1 .left) (hundreds .last-digit3 .ensures) (hundreds .before .if2 .left) (thousands .last-digit4 .ensures) (thousands .before .if3 .left) in
+    appended-as digits (c .before .before .put-text4 .ensures)
 
 pub put-decimal-spec : {M : Type 1} → statement M
 put-decimal-spec =

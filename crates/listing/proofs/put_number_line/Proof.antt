@@ -1,4 +1,4 @@
--- Three texts, one behind the other.
+-- Three texts, one after the other.
 -- Assumes nothing.
 use native.Mathlib.Omega.{arith}
 use Rattle.listing.proofs.Appended.{appended-next}
@@ -24,10 +24,11 @@ same-length c = search needs
 
 returns : tie.Need-returns
 returns c =
-    appended-next
-    (appended-next (c .before .before .before .before .before .before .before .before .before .before .before .put-text .ensures) (c .before .before .before .before .before .before .before .put-decimal .ensures) (omega arith))
-    (c .before .before .put-text2 .ensures)
-    (omega (arith, decimal-short (c .before .before .before .before .before .before .before .before .before .before .before .before .before .before .before .args .n)))
+    let number = c .before .before .before .before .before .before .before in
+    let word = number .before .before .before .before in
+    let short = decimal-short (word .before .before .before .before .args .n) in
+    let head = appended-next (word .put-text .ensures) (number .put-decimal .ensures) (omega arith) in
+    appended-next head (c .before .before .put-text2 .ensures) (omega (arith, short))
 
 pub put-number-line-spec : {M : Type 1} → statement M
 put-number-line-spec =

@@ -25,8 +25,10 @@ same-length c = search needs
 
 returns : tie.Need-returns
 returns c =
-    let e : 32 ∷ c .before .before .before .before .before .before .digit-of .result ∷ c .before .before .before .before .before .digit-of2 .result ∷ [] ≡ ascii " " ++ hexByte (c .before .before .before .before .before .before .before .before .args .byte) =
-    rw (c .before .before .before .before .before .before .digit-of .ensures, c .before .before .before .before .before .digit-of2 .ensures) in
+    let low = c .before .before .before .before .before in
+    let high = low .before in
+    let e : 32 ∷ high .digit-of .result ∷ low .digit-of2 .result ∷ [] ≡ ascii " " ++ hexByte (high .before .before .args .byte) =
+    rw (high .digit-of .ensures, low .digit-of2 .ensures) in
     appended-as e (c .before .before .put-text .ensures)
 
 pub put-spaced-byte-spec : {M : Type 1} → statement M

@@ -36,10 +36,12 @@ loop-less c = search needs
 
 loop-again : tie.Need-loop-again Inv-loop μ-loop
 loop-again c =
-    let a = c .before .before .before .before .before .before .before .before .before .args in
-    let l = c .before .before .before .before .before .before .loop in
-    let next = spaced-turn (a .bytes .now) (l .i) (l .inv .3) (c .before .before .put-spaced-byte .ensures) (omega arith) (omega arith) in
-    let e : c .before .before .put-spaced-byte .result ≡ a .at + 3 * (l .i + 1) = omega (arith, c .before .before .put-spaced-byte .ensures .behind) in
+    let p = c .before .before .before .before .before .before in
+    let l = p .loop in
+    let a = p .before .before .before .args in
+    let put = c .before .before .put-spaced-byte in
+    let next = spaced-turn (a .bytes .now) (l .i) (l .inv .3) (put .ensures) (omega arith) (omega arith) in
+    let e : put .result ≡ a .at + 3 * (l .i + 1) = omega (arith, put .ensures .end) in
     (omega arith, e, length-appended next (omega arith), next)
 
 same-length : tie.Need-same-length Inv-loop μ-loop

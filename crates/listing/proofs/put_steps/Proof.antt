@@ -40,8 +40,9 @@ size-requires c κs = search needs
 
 -- the step that a turn lists
 turn-add : (c : tie.After-size Inv-loop μ-loop)
-    → let a = c .before .before .before .before .before .before .before .before .before .before .args in
-    Turn (a .panel) (a .file .now) (c .before .before .before .before .before .before .before .loop .next) 1 (c .before .step-at .result) (c .size .result)
+    → let p = c .before .before .before .before .before .before .before in
+    let a = p .before .before .before .args in
+    Turn (a .panel) (a .file .now) (p .loop .next) 1 (c .before .step-at .result) (c .size .result)
 turn-add c = record { more = omega arith; read = c .before .step-at .ensures; size = c .size .ensures }
 
 add-next : tie.Need-add-next Inv-loop μ-loop
@@ -55,13 +56,15 @@ loop-less c = search needs
 
 loop-again : tie.Need-loop-again Inv-loop μ-loop
 loop-again c =
-    let a = c .before .before .before .before .before .before .before .before .before .before .args in
-    let l = c .before .before .before .before .before .before .before .loop in
+    let p = c .before .before .before .before .before .before .before in
+    let l = p .loop in
+    let a = p .before .before .before .args in
+    let put = c .before .before .before .before .put-step in
     let s = drop (a .from) (a .file .now) in
     let turn = turn-add c in
-    let text = lines-turn (a .panel) (a .file .now) s (l .i) (l .next) (l .inv .2) (l .inv .5) (c .before .before .before .before .put-step .ensures) (omega arith) in
-    let end : c .before .before .before .before .put-step .result ≤ a .at + 33 * (l .i + 1) =
-    omega (arith, c .before .before .before .before .put-step .ensures .behind, line-short (a .panel) (drop (l .next) (a .file .now))) in (
+    let text = lines-turn (a .panel) (a .file .now) s (l .i) (l .next) (l .inv .2) (l .inv .5) (put .ensures) (omega arith) in
+    let end : put .result ≤ a .at + 33 * (l .i + 1) =
+    omega (arith, put .ensures .end, line-short (a .panel) (drop (l .next) (a .file .now))) in (
       omega arith,
       next-fits turn (omega arith),
       rest-turn (a .panel) (a .file .now) s (l .i) (l .next) (l .inv .2) (c .size .result) (sized turn),

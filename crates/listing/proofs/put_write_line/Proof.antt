@@ -1,4 +1,4 @@
--- Four texts, one behind the other.
+-- Four texts, one after the other.
 -- Assumes nothing.
 use native.Mathlib.Omega.{arith}
 use Rattle.listing.proofs.Appended.{appended-next}
@@ -30,13 +30,13 @@ same-length c = search needs
 
 returns : tie.Need-returns
 returns c =
-    appended-next
-    (appended-next
-    (appended-next (c .before .before .before .before .before .before .before .before .before .before .before .before .before .before .before .put-text .ensures) (c .before .before .before .before .before .before .before .before .before .before .before .put-spaced-byte .ensures) (omega arith))
-    (c .before .before .before .before .before .before .before .put-spaced-bytes .ensures)
-    (omega arith))
-    (c .before .before .put-text2 .ensures)
-    (omega (arith, length-spaced (c .before .before .before .before .before .before .before .before .before .before .before .before .before .before .before .before .before .before .before .before .args .bytes .now)))
+    let bytes = c .before .before .before .before .before .before .before in
+    let register = bytes .before .before .before .before in
+    let word = register .before .before .before .before in
+    let long = length-spaced (word .before .before .before .before .before .args .bytes .now) in
+    let front = appended-next (word .put-text .ensures) (register .put-spaced-byte .ensures) (omega arith) in
+    let shown = appended-next front (bytes .put-spaced-bytes .ensures) (omega arith) in
+    appended-next shown (c .before .before .put-text2 .ensures) (omega (arith, long))
 
 pub put-write-line-spec : {M : Type 1} → statement M
 put-write-line-spec =

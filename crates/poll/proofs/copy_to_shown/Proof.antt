@@ -1,4 +1,4 @@
--- Each turn copies one byte more to slot 0; those that are still to come stand behind it. Assumes nothing.
+-- Each turn copies one byte more to slot 0; those that are still to come stand after it. Assumes nothing.
 use mathlib.Core.Path.{_≡_, refl, ap, _∙_}
 use Prim.Native.Nat.{ℕ, _-_, _≤_}
 use native.Mathlib.Omega.{arith}

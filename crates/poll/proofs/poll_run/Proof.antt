@@ -28,9 +28,10 @@ enum-known-reading c = search needs
 
 poll-at-requires : tie.Need-poll-at-requires
 poll-at-requires c κs =
-    let a = c .before .before .before .before .before .before .before .before .before .before .before .before .args in
+    let entry = c .before .before .before .before .before .before .before .before .before .before .before .before in
+    let a = entry .args in
     let later = moment-later (a .file .now) (a .run) (a .tick) (a .memory .now) (a .out .now) _ (sym (c .before .before .before .before .before .read-clock .ensures) ∙ c .before .before .before .reading .given .1) in
-    (c .before .before .before .before .before .before .before .before .before .before .before .before .pre .0, record { valid = c .before .before .before .before .before .before .before .before .before .before .before .before .pre .1 .valid; order = omega (arith, c .before .before .before .before .before .before .before .before .before .before .before .before .pre .1 .order, later) }, c .before .before .before .before .before .before .before .before .before .before .before .before .pre .2, omega arith)
+    (entry .pre .0, record { valid = entry .pre .1 .valid; order = omega (arith, entry .pre .1 .order, later) }, entry .pre .2, omega (arith, c .before .before .before .before .before .before .before .before .if1 .left))
 
 returns-2 : tie.Need-returns-2
 returns-2 c =

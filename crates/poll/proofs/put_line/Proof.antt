@@ -1,24 +1,19 @@
 -- `put_line` meets its contract: the part that is lent is the row of the slot that the stage looks at. Assumes nothing.
 use native.Mathlib.Omega.{arith}
+use Rattle.settings.proofs.Plans.{bytes-is, rows-is}
 use Rattle.poll.proofs.Rows.{stage-le, row-at, row-fits, line-sent}
 use borrow.Author.Needs.{needs}
 use Rattle.poll.proofs.put_line.Statement.{statement}
 use Rattle.poll.proofs.put_line.Tie as tie
 
-rows-in-requires : tie.Need-rows-in-requires
-rows-in-requires c κs = search needs
-
-row-bytes-in-requires : tie.Need-row-bytes-in-requires
-row-bytes-in-requires c κs = search needs
-
 slot-of-stage-requires : tie.Need-slot-of-stage-requires
 slot-of-stage-requires c κs = search needs
 
 row-start-requires : tie.Need-row-start-requires
-row-start-requires c κs = omega (arith, stage-le (c .before .before .before .before .before .before .args .stage) (c .before .before .before .before .before .before .args .slot))
+row-start-requires c κs = (c .before .before .before .before .pre .0 .sized .low, c .before .before .before .before .pre .0 .sized .narrow, omega (arith, stage-le (c .before .before .before .before .args .stage) (c .before .before .before .before .args .slot), c .slot-of-stage .ensures, c .before .before .before .before .pre .1 .few), omega (arith, c .before .before .before .before .pre .4, (rows-is (c .before .before .before .before .pre .0))))
 
 add-end : tie.Need-add-end
-add-end c = search needs
+add-end c = omega (arith, c .before .row-start .ensures .1, c .before .before .before .before .before .before .pre .0 .sized .narrow)
 
 sub-hand-out-line : tie.Need-sub-hand-out-line
 sub-hand-out-line c = search needs
@@ -28,9 +23,10 @@ part-hand-out-line-start c = search needs
 
 part-hand-out-line-end : tie.Need-part-hand-out-line-end
 part-hand-out-line-end c =
-    let a = c .before .before .before .before .before .before .before .before .args in
-    let at = row-at (a .file .now) (a .row) (c .before .before .slot-of-stage .ensures) (c .before .before .before .before .rows-in .ensures .0) (c .before .before .before .row-bytes-in .ensures .0) (c .before .row-start .ensures .0) in
-    row-fits (a .file .now) (a .memory .now) (a .slot) (a .stage) (a .row) (c .before .before .before .before .before .before .before .before .pre .1) (c .before .before .before .before .before .before .before .before .pre .4) (c .before .row-start .result) (c .before .before .before .row-bytes-in .result) at (c .before .before .before .row-bytes-in .ensures .0)
+    let entry = c .before .before .before .before .before .before .before in
+    let a = entry .args in
+    let at = row-at (a .file .now) (a .row) (c .before .before .before .slot-of-stage .ensures) ((rows-is (entry .pre .0))) ((bytes-is (entry .pre .0))) (c .before .before .row-start .ensures .0) in
+    row-fits (a .file .now) (a .memory .now) (a .slot) (a .stage) (a .row) (entry .pre .1) (entry .pre .4) (c .before .before .row-start .result) (a .plan .shape .bytes) at ((bytes-is (entry .pre .0)))
 
 hand-out-line-requires : tie.Need-hand-out-line-requires
 hand-out-line-requires c κs = search needs
@@ -40,16 +36,16 @@ same-length c = search needs
 
 returns : tie.Need-returns
 returns c =
-    let a = c .before .before .before .before .before .before .before .before .before .before .before .before .args in
-    let at = row-at (a .file .now) (a .row) (c .before .before .before .before .before .before .slot-of-stage .ensures) (c .before .before .before .before .before .before .before .before .rows-in .ensures .0) (c .before .before .before .before .before .before .before .row-bytes-in .ensures .0) (c .before .before .before .before .before .row-start .ensures .0) in
-    line-sent (a .file .now) (a .memory .now) (a .slot) (a .stage) (a .row) (c .before .before .before .before .before .before .before .before .before .before .before .before .pre .1) (c .before .before .before .before .before .before .before .before .before .before .before .before .pre .4) (c .before .before .before .before .before .row-start .result) (c .before .before .before .before .before .before .before .row-bytes-in .result) at (c .before .before .before .before .before .before .before .row-bytes-in .ensures .0) (c .before .before .before .before .before .before .before .before .rows-in .result) (c .before .before .before .before .before .before .before .before .rows-in .ensures .0) (c .before .before .hand-out-line .ensures)
+    let entry = c .before .before .before .before .before .before .before .before .before .before .before in
+    let a = entry .args in
+    let at = row-at (a .file .now) (a .row) (c .before .before .before .before .before .before .before .slot-of-stage .ensures) ((rows-is (entry .pre .0))) ((bytes-is (entry .pre .0))) (c .before .before .before .before .before .before .row-start .ensures .0) in
+    line-sent (a .file .now) (a .memory .now) (a .slot) (a .stage) (a .row) (entry .pre .1) (entry .pre .4) (c .before .before .before .before .before .before .row-start .result) (a .plan .shape .bytes) at
+    ((bytes-is (entry .pre .0))) (a .plan .shape .rows) ((rows-is (entry .pre .0))) (c .before .before .hand-out-line .ensures)
 
 pub put-line-spec : {M : Type 1} → statement M
 put-line-spec =
     tie.close
     (tie.spec
-    rows-in-requires
-    row-bytes-in-requires
     slot-of-stage-requires
     row-start-requires
     add-end

@@ -1,37 +1,35 @@
 -- `line_to_go` meets its contract. Assumes nothing.
 use denote.Ref.{now}
 use native.Mathlib.Omega.{arith}
+use Rattle.settings.proofs.Plans.{frames-is}
 use Rattle.run.proofs.Due.{due-frame, due-later}
 use Rattle.run.proofs.Valid.{at-line}
 use borrow.Author.Needs.{needs}
 use Rattle.run.proofs.line_to_go.Statement.{statement}
 use Rattle.run.proofs.line_to_go.Tie as tie
 
-run-frames-requires : tie.Need-run-frames-requires
-run-frames-requires c κs = search needs
-
 frame-number-requires : tie.Need-frame-number-requires
 frame-number-requires c κs =
-    let a = c .before .before .before .before .args in
-    let line = at-line (now (a .file)) (a .run) (a .stage) (a .frame) (a .row) (c .before .before .before .before .pre .1 .valid) in
-    (line .low, line .high, omega (arith, c .run-frames .ensures .0, line .frames), c .run-frames .ensures .1)
+    let a = c .before .before .before .args in
+    let line = at-line (now (a .file)) (a .run) (a .stage) (a .frame) (a .row) (c .before .before .before .pre .1 .valid) in
+    (line .low, line .high, omega (arith, (frames-is (c .before .before .before .pre .0)), line .frames), c .before .before .before .pre .0 .sized .frames-few)
 
 mul-remaining : tie.Need-mul-remaining
 mul-remaining c = search needs
 
 remaining-requires : tie.Need-remaining-requires
 remaining-requires c κs =
-    let a = c .before .before .before .before .before .args in
-    let line = at-line (now (a .file)) (a .run) (a .stage) (a .frame) (a .row) (c .before .before .before .before .before .pre .1 .valid) in
-    omega (arith, line .due, c .before .before .before .before .before .pre .1 .order)
+    let a = c .before .before .before .before .args in
+    let line = at-line (now (a .file)) (a .run) (a .stage) (a .frame) (a .row) (c .before .before .before .before .pre .1 .valid) in
+    omega (arith, line .due, c .before .before .before .before .pre .1 .order)
 
 returns : tie.Need-returns
 returns c =
-    let a = c .before .before .before .before .before .before .args in
-    let i = rw (c .before .before .run-frames .ensures .0) at (c .before .frame-number .ensures .0) in
+    let a = c .before .before .before .before .before .args in
+    let i = rw ((frames-is (c .before .before .before .before .before .pre .0))) at (c .before .frame-number .ensures .0) in
     omega (
       arith,
-      due-frame (now (a .file)) (a .run) (a .stage) (a .frame) (a .row) (c .before .before .before .before .if1 .taken),
+      due-frame (now (a .file)) (a .run) (a .stage) (a .frame) (a .row) (c .before .before .before .if1 .taken),
       c .remaining .ensures,
     )
 
@@ -44,7 +42,6 @@ pub line-to-go-spec : {M : Type 1} → statement M
 line-to-go-spec =
     tie.close
     (tie.spec
-    run-frames-requires
     frame-number-requires
     mul-remaining
     remaining-requires

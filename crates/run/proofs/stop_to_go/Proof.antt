@@ -4,38 +4,22 @@ use denote.Ref.{now}
 use lib.ListN.{drop}
 use native.Mathlib.Omega.{arith}
 use Rattle.settings.specs.Steps.{waitsBefore}
-use Rattle.settings.proofs.Accepted.{good-stops}
-use Rattle.run.proofs.Due.{stops-here, steps-here}
+use Rattle.settings.proofs.Plans.{frames-is}
 use Rattle.run.proofs.Valid.{at-stop}
 use borrow.Author.Needs.{needs}
 use Rattle.run.proofs.stop_to_go.Statement.{statement}
 use Rattle.run.proofs.stop_to_go.Tie as tie
 
-add-waits-from : tie.Need-add-waits-from
-add-waits-from c = search needs
-
-shared-slice-read-waits-from : tie.Need-shared-slice-read-waits-from
-shared-slice-read-waits-from c = search needs
-
-cast-waits-from : tie.Need-cast-waits-from
-cast-waits-from c = omega (arith, c .shared-slice-known2 .given (c .before .before .before .before .args .stop))
-
 waits-from-requires : tie.Need-waits-from-requires
 waits-from-requires c κs =
-    let pre = c .before .before .before .before .pre in
     let a = c .before .before .before .before .args in
-    let at = at-stop (now (a .file)) (a .run) (a .k) (pre .1 .valid) in
-    let n = stops-here (pre .0) in
-    (pre .0 .good, omega (arith, pre .0 .within), omega (arith, good-stops _ (pre .0 .good)), omega (arith, at .few))
-
-run-frames-requires : tie.Need-run-frames-requires
-run-frames-requires c κs = search needs
+    (c .before .before .before .before .pre .0 .stop .readable, omega (arith, at-stop (now (a .file)) (a .run) (a .k) (c .before .before .before .before .pre .1 .valid) .few, c .before .before .before .before .pre .0 .stop .count-is))
 
 mul-remaining : tie.Need-mul-remaining
-mul-remaining c = search needs
+mul-remaining c = omega (arith, c .before .before .before .before .before .before .pre .0 .sized .frames-few)
 
 add-remaining : tie.Need-add-remaining
-add-remaining c = search needs
+add-remaining c = omega (arith, c .before .before .before .before .before .before .pre .0 .sized .frames-few, c .before .waits-from .ensures .1)
 
 remaining-requires : tie.Need-remaining-requires
 remaining-requires c κs =
@@ -47,22 +31,26 @@ remaining-requires-2 c κs = search needs
 
 returns : tie.Need-returns
 returns c =
+    let entry = c .before .before .before .before .before .before .before .before .before in
+    let a = entry .args in
     omega (
       arith,
-      ap (λ steps. waitsBefore (drop (c .before .before .before .before .before .before .before .before .before .args .k) steps)) (steps-here (c .before .before .before .before .before .before .before .before .before .pre .0)),
+      ap (λ steps. waitsBefore (drop (a .k) steps)) (entry .pre .0 .stop .steps-are),
       c .before .before .before .before .waits-from .ensures .0,
-      c .before .before .before .run-frames .ensures .0,
+      (frames-is (entry .pre .0)),
       c .before .before .remaining .ensures,
       c .before .remaining2 .ensures,
     )
 
 returns-2 : tie.Need-returns-2
 returns-2 c =
+    let entry = c .before .before .before .before .before .before .before .before .before in
+    let a = entry .args in
     omega (
       arith,
-      ap (λ steps. waitsBefore (drop (c .before .before .before .before .before .before .before .before .before .args .k) steps)) (steps-here (c .before .before .before .before .before .before .before .before .before .pre .0)),
+      ap (λ steps. waitsBefore (drop (a .k) steps)) (entry .pre .0 .stop .steps-are),
       c .before .before .before .before .waits-from .ensures .0,
-      c .before .before .before .run-frames .ensures .0,
+      (frames-is (entry .pre .0)),
       c .before .before .remaining .ensures,
       c .before .remaining2 .ensures,
     )
@@ -71,11 +59,7 @@ pub stop-to-go-spec : {M : Type 1} → statement M
 stop-to-go-spec =
     tie.close
     (tie.spec
-    add-waits-from
-    shared-slice-read-waits-from
-    cast-waits-from
     waits-from-requires
-    run-frames-requires
     mul-remaining
     add-remaining
     remaining-requires

@@ -10,13 +10,13 @@ enum-known-next : tie.Need-enum-known-next
 enum-known-next c = search needs
 
 start-to-go-requires : tie.Need-start-to-go-requires
-start-to-go-requires c κs = (c .before .before .before .before .pre .0 .good, ready-here _ (c .before .before .before .before .args .run) (c .before .next .given .1) (c .before .before .before .before .pre .1))
+start-to-go-requires c κs = (c .before .before .before .before .pre .0, ready-here _ (c .before .before .before .before .args .run) (c .before .next .given .1) (c .before .before .before .before .pre .1))
 
 enum-known-next-2 : tie.Need-enum-known-next-2
 enum-known-next-2 c = search needs
 
 line-to-go-requires : tie.Need-line-to-go-requires
-line-to-go-requires c κs = (c .before .before .before .before .pre .0 .good, ready-here _ (c .before .before .before .before .args .run) (c .before .next2 .given .1) (c .before .before .before .before .pre .1))
+line-to-go-requires c κs = (c .before .before .before .before .pre .0, ready-here _ (c .before .before .before .before .args .run) (c .before .next2 .given .1) (c .before .before .before .before .pre .1))
 
 enum-known-next-3 : tie.Need-enum-known-next-3
 enum-known-next-3 c = search needs

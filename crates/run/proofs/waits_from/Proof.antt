@@ -1,21 +1,18 @@
 -- `waits_from` meets its contract. Assumes nothing.
 use native.Mathlib.Omega.{arith}
-use Rattle.settings.proofs.Accepted.{good-long, good-panel}
+use borrow.Author.Needs.{needs}
 use Rattle.run.proofs.waits_from.Statement.{statement}
 use Rattle.run.proofs.waits_from.Tie as tie
 
-panel-of-requires : tie.Need-panel-of-requires
-panel-of-requires c κs = omega (arith, good-long _ (c .before .pre .0))
-
 next-write-from-requires : tie.Need-next-write-from-requires
-next-write-from-requires c κs =
-    let pre = c .before .before .pre in
-    (omega (arith, good-panel _ (pre .0), c .panel-of .ensures), pre .1, omega (arith, pre .2), pre .3)
+next-write-from-requires c κs = (c .before .pre .0 .a-panel, c .before .pre .0 .within, omega (arith, c .before .pre .0 .few), c .before .pre .1)
 
 returns : tie.Need-returns
-returns c =
-    let found = rw (c .before .panel-of .ensures) at (c .next-write-from .ensures) in
-    (found .waits, found .small)
+returns c = (c .next-write-from .ensures .waits, c .next-write-from .ensures .small)
 
 pub waits-from-spec : {M : Type 1} → statement M
-waits-from-spec = tie.close (tie.spec panel-of-requires next-write-from-requires returns)
+waits-from-spec =
+    tie.close
+    (tie.spec
+    next-write-from-requires
+    returns)

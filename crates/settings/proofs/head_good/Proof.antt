@@ -8,7 +8,7 @@ use borrow.Author.Tests.{not-true, not-false, eq-eqb, ne-eqb, le-leb, lt-leb}
 use borrow.Author.Needs.{needs}
 use Rattle.lists.proofs.Rules.{broken, none, keep, others}
 use Rattle.settings.specs.Settings.{startCount}
-use Rattle.settings.specs.Facts.{headRules}
+use Rattle.settings.specs.Settings.{headRules}
 use Rattle.settings.proofs.head_good.Statement.{statement}
 use Rattle.settings.proofs.head_good.Tie as tie
 

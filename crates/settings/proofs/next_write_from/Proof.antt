@@ -1,4 +1,4 @@
--- `next_write_from` meets its contract: what is left behind k steps are the steps from the k-th on. Assumes nothing.
+-- `next_write_from` meets its contract: what is left after k steps are the steps from the k-th on. Assumes nothing.
 use borrow.Author.Needs.{needs}
 use Rattle.settings.proofs.Waits.{found-from}
 use Rattle.settings.proofs.next_write_from.Statement.{statement}

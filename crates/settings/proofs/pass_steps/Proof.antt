@@ -8,27 +8,31 @@ use native.Mathlib.Omega.{arith}
 use lib.ListN.{length, drop}
 use denote.Ref.{now}
 use borrow.Author.Needs.{needs}
-use Rattle.settings.specs.Settings.{stepsOf, restOf, allSteps, writesTo}
-use Rattle.settings.proofs.Steps.{Turn, next-fits, next-rest, next-all, next-writes, stuck-all, stuck-rest}
+use Rattle.settings.specs.Settings.{stepOf, stepsOf, restOf, allSteps, writesTo}
+use Rattle.settings.specs.Facts.{kindOf}
+use Rattle.settings.proofs.Steps.{Turn, one-step, next-fits, next-rest, next-all, next-writes, stuck-all, stuck-rest}
 use Rattle.settings.proofs.pass_steps.Statement.{statement}
 use Rattle.settings.proofs.pass_steps.Tie as tie
 
 abbrev Inv-loop : tie.InvT-loop
-Inv-loop file panel at n end₀ left₀ channels₀ level₀ end left channels level =
+Inv-loop file panel at n end₀ left₀ channels₀ level₀ last₀ end left channels level last =
     (end ≤ length file)
     × (allSteps (stepsOf panel left (drop end file)) ≡ allSteps (stepsOf panel n (drop at file)))
     × (restOf panel left (drop end file) ≡ restOf panel n (drop at file))
     × ((channels || writesTo 0x01 (stepsOf panel left (drop end file))) ≡ writesTo 0x01 (stepsOf panel n (drop at file)))
     × ((level || writesTo 0x04 (stepsOf panel left (drop end file))) ≡ writesTo 0x04 (stepsOf panel n (drop at file)))
+    × (left ≤ n)
+    × (left ≡ n → end ≡ at)
+    × (n ≡ 1 → left ≡ 0 → last ≡ kindOf (stepOf panel (drop at file)))
 
 abbrev μ-loop : tie.MeasureT-loop
-μ-loop file panel at n end₀ left₀ channels₀ level₀ end left channels level = left
+μ-loop file panel at n end₀ left₀ channels₀ level₀ last₀ end left channels level last = left
 
 loop-holds : tie.Need-loop-holds Inv-loop μ-loop
-loop-holds c = (c .before .pre .1, refl, refl, refl, refl)
+loop-holds c = (c .before .pre .1, refl, refl, refl, refl, omega arith, λ e. refl, λ e z. absurd (omega (arith, e, z)))
 
-step-at-requires : tie.Need-step-at-requires Inv-loop μ-loop
-step-at-requires c κs = (c .before .before .before .pre .0, c .before .loop .inv .0)
+read-step-requires : tie.Need-read-step-requires Inv-loop μ-loop
+read-step-requires c κs = (c .before .before .before .pre .0, c .before .loop .inv .0)
 
 size-requires : tie.Need-size-requires Inv-loop μ-loop
 size-requires c κs = tt
@@ -37,13 +41,14 @@ returns : tie.Need-returns Inv-loop μ-loop
 returns c =
     let a = c .before .before .before .before .before .before .args in
     let l = c .before .before .before .before .loop in
-    let turn : Turn (a .panel) (now (a .file)) (l .end) (l .left) (c .before .before .step-at .result) (c .before .size .result) = search needs in
+    let turn : Turn (a .panel) (now (a .file)) (l .end) (l .left) (c .before .before .read-step .result) (c .before .size .result) = search needs in
     record {
       good = sym (stuck-all turn (c .if1 .taken)) ∙ l .inv .1;
       within = l .inv .0;
       rest = sym (stuck-rest turn (c .if1 .taken)) ∙ l .inv .2;
       channels = λ t. absurd (false≢true t);
       level = λ t. absurd (false≢true t);
+      one = λ e. one-step (a .panel) (now (a .file)) (turn .read) (l .inv .6 (omega (arith, turn .more, l .inv .5, e)));
     }
 
 written-so-far-requires : tie.Need-written-so-far-requires Inv-loop μ-loop
@@ -56,7 +61,7 @@ add-end : tie.Need-add-end Inv-loop μ-loop
 add-end c =
     let a = c .before .before .before .before .before .before .before .before .args in
     let l = c .before .before .before .before .before .before .loop in
-    let turn : Turn (a .panel) (now (a .file)) (l .end) (l .left) (c .before .before .before .before .step-at .result) (c .before .before .before .size .result) = search needs in
+    let turn : Turn (a .panel) (now (a .file)) (l .end) (l .left) (c .before .before .before .before .read-step .result) (c .before .before .before .size .result) = search needs in
     omega (arith, next-fits turn (l .inv .0))
 
 sub-left : tie.Need-sub-left Inv-loop μ-loop
@@ -69,12 +74,15 @@ loop-again : tie.Need-loop-again Inv-loop μ-loop
 loop-again c =
     let a = c .before .before .before .before .before .before .before .before .args in
     let l = c .before .before .before .before .before .before .loop in
-    let turn : Turn (a .panel) (now (a .file)) (l .end) (l .left) (c .before .before .before .before .step-at .result) (c .before .before .before .size .result) = search needs in (
+    let turn : Turn (a .panel) (now (a .file)) (l .end) (l .left) (c .before .before .before .before .read-step .result) (c .before .before .before .size .result) = search needs in (
       next-fits turn (l .inv .0),
       sym (next-all turn (c .before .before .if1 .left)) ∙ l .inv .1,
       sym (next-rest turn) ∙ l .inv .2,
       next-writes turn 0x01 (l .channels) (c .before .written-so-far .ensures) ∙ l .inv .3,
       next-writes turn 0x04 (l .level) (c .written-so-far2 .ensures) ∙ l .inv .4,
+      omega (arith, l .inv .5),
+      λ e. absurd (omega (arith, e, l .inv .5, turn .more)),
+      λ e z. one-step (a .panel) (now (a .file)) (turn .read) (l .inv .6 (omega (arith, turn .more, l .inv .5, e))),
     )
 
 returns-2 : tie.Need-returns-2 Inv-loop μ-loop
@@ -89,6 +97,7 @@ returns-2 c =
       rest = ap (λ n. restOf (a .panel) n s) e ∙ l .inv .2;
       channels = λ t. sym (or-false _) ∙ ap (λ n. l .channels || writesTo 0x01 (stepsOf (a .panel) n s)) e ∙ l .inv .3;
       level = λ t. sym (or-false _) ∙ ap (λ n. l .level || writesTo 0x04 (stepsOf (a .panel) n s)) e ∙ l .inv .4;
+      one = λ q. l .inv .7 q (sym e);
     }
 
 pub pass-steps-spec : {M : Type 1} → statement M
@@ -98,7 +107,7 @@ pass-steps-spec =
     Inv-loop
     μ-loop
     loop-holds
-    step-at-requires
+    read-step-requires
     size-requires
     returns
     written-so-far-requires

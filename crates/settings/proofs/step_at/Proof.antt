@@ -1,63 +1,14 @@
--- `step_at` meets its contract: what it reads from index `at` on is the beginning of the file's rest there.
--- Assumes nothing.
+-- One step, passed. Assumes nothing.
+use mathlib.Core.Path.{refl}
 use borrow.Author.Needs.{needs}
-use Rattle.settings.proofs.Decode.{short-step, write-step, wait-step, no-step}
 use Rattle.settings.proofs.step_at.Statement.{statement}
 use Rattle.settings.proofs.step_at.Tie as tie
 
-sub-if1 : tie.Need-sub-if1
-sub-if1 c = search needs
+pass-steps-requires : tie.Need-pass-steps-requires
+pass-steps-requires c κs = search needs
 
 returns : tie.Need-returns
-returns c = search (needs, short-step)
-
-shared-slice-read-tag : tie.Need-shared-slice-read-tag
-shared-slice-read-tag c = search needs
-
-add-first : tie.Need-add-first
-add-first c = search needs
-
-shared-slice-read-first : tie.Need-shared-slice-read-first
-shared-slice-read-first c = search needs
-
-add-write-at : tie.Need-add-write-at
-add-write-at c = search needs
-
-write-at-requires : tie.Need-write-at-requires
-write-at-requires c κs = search needs
-
-returns-2 : tie.Need-returns-2
-returns-2 c = search (needs, write-step)
-
-add-second : tie.Need-add-second
-add-second c = search needs
-
-shared-slice-read-second : tie.Need-shared-slice-read-second
-shared-slice-read-second c = search needs
-
-wait-of-requires : tie.Need-wait-of-requires
-wait-of-requires c κs = search needs
-
-returns-3 : tie.Need-returns-3
-returns-3 c = search (needs, wait-step)
-
-returns-4 : tie.Need-returns-4
-returns-4 c = search (needs, no-step)
+returns c = c .pass-steps .ensures .one refl
 
 pub step-at-spec : {M : Type 1} → statement M
-step-at-spec =
-    tie.close
-    (tie.spec
-    sub-if1
-    returns
-    shared-slice-read-tag
-    add-first
-    shared-slice-read-first
-    add-write-at
-    write-at-requires
-    returns-2
-    add-second
-    shared-slice-read-second
-    wait-of-requires
-    returns-3
-    returns-4)
+step-at-spec = tie.close (tie.spec pass-steps-requires returns)

@@ -1,4 +1,4 @@
--- The head, the line in the part behind it, and the write after the line.
+-- The head, the line in the part after it, and the write after the line.
 -- Assumes nothing.
 use mathlib.Core.Path.{_≡_, refl}
 use mathlib.Core.List.{[], _∷_, _++_}
@@ -54,10 +54,11 @@ same-length c = search needs
 returns : tie.Need-returns
 unfolding handedLine
 returns c =
+    let put-head = c .before .before .before .before .before .before .before .before .before .before .before .put-head in
     let a = c .before .before .before .before .before .before .before .before .before .before .before .before .before .before .before .args in
     let b = length (a .row .now) in
     let bytes = line b (a .rows) (a .stage) (a .y) (rowDot (a .row .now)) in
-    let o = c .before .before .before .before .before .before .before .before .before .before .before .put-head .last .0 in
+    let o = put-head .last .0 in
     let put = c .before .before .before .before .before .before .before .put-line in
     let part : take 3 o ++ (put .last .0 ++ drop (length o - 3) (drop 3 o)) ≡ overlayAt 3 bytes o =
     rw (put .ensures) (overlay-part 3 (length o - 3) bytes o refl) in
@@ -67,7 +68,7 @@ returns c =
       overlay-three (a .out .now) o _ _ head bytes after 3 (b + a .rows / 4 + b + 3) refl
           (omega (arith, length-line b (a .rows) (a .stage) (a .y) (rowDot (a .row .now))))
           (omega arith)
-          (c .before .before .before .before .before .before .before .before .before .before .before .put-head .ensures)
+          (put-head .ensures)
           part
           (c .before .before .put-at .ensures),
     )

@@ -1,4 +1,4 @@
--- The data stands behind the head.
+-- The data stands after the head.
 -- Assumes nothing.
 use mathlib.Core.Path.{refl}
 use mathlib.Core.List.{[]}

@@ -1,14 +1,17 @@
--- `abandon`, by its number.
--- Assumes nothing.
+-- `abandon`, by its number. Assumes nothing.
+use mathlib.Core.Path.{refl}
 use lib.ListN.{length}
 use denote.Ref.{now}
-use Rattle.board.proofs.Starting.{abandon-refused, abandon-accepted}
+use Rattle.board.specs.State.{storeCases}
+use Rattle.board.specs.Calls.{abandonOwn}
+use Rattle.board.proofs.Numbers.{after-cases}
+use Rattle.board.proofs.Replies.{abandon-refused, abandon-accepted}
 use borrow.Author.Needs.{needs}
 use Rattle.board.proofs.State.abandon.Statement.{statement}
 use Rattle.board.proofs.State.abandon.Tie as tie
 
-slice-aggregate-abandon-number : tie.Need-slice-aggregate-abandon-number
-slice-aggregate-abandon-number c = search needs
+check-requires : tie.Need-check-requires
+check-requires c κs = search needs
 
 abandon-number-requires : tie.Need-abandon-number-requires
 abandon-number-requires c κs = search needs
@@ -16,7 +19,10 @@ abandon-number-requires c κs = search needs
 returns : tie.Need-returns
 returns c =
     let a = c .before .before .before .before .before .args in
-    search (needs, abandon-refused (a .self) (length (now (a .memory))) (c .before .abandon-number .ensures) (c .if1 .taken))
+    let s = a .self in
+    let m = length (now (a .memory)) in
+    let is = after-cases (storeCases s m) (abandonOwn (s .store)) refl (c .before .before .before .check .ensures .number-is) (c .before .abandon-number .ensures) in
+    search (needs, abandon-refused s m is (c .if1 .taken))
 
 with-phase-requires : tie.Need-with-phase-requires
 with-phase-requires c κs = search needs
@@ -24,15 +30,12 @@ with-phase-requires c κs = search needs
 returns-2 : tie.Need-returns-2
 returns-2 c =
     let a = c .before .before .before .before .before .before .args in
-    search
-    (needs, abandon-accepted (a .self) (length (now (a .memory))) (c .before .before .abandon-number .ensures) (c .with-phase .ensures) (c .before .if1 .left))
+    let s = a .self in
+    let m = length (now (a .memory)) in
+    let is = after-cases (storeCases s m) (abandonOwn (s .store)) refl (c .before .before .before .before .check .ensures .number-is) (c .before .before .abandon-number .ensures) in
+    search (needs, abandon-accepted s m is (c .with-phase .ensures) (c .before .if1 .left))
 
 pub abandon-spec : {M : Type 1} → statement M
 abandon-spec =
     tie.close
-    (tie.spec
-    slice-aggregate-abandon-number
-    abandon-number-requires
-    returns
-    with-phase-requires
-    returns-2)
+    (tie.spec check-requires abandon-number-requires returns with-phase-requires returns-2)

@@ -1,14 +1,17 @@
--- `start`, by its number.
--- Assumes nothing.
+-- `start`, by its number. Assumes nothing.
+use mathlib.Core.Path.{refl}
 use lib.ListN.{length}
 use denote.Ref.{now}
-use Rattle.board.proofs.Starting.{start-refused, start-accepted}
+use Rattle.board.specs.State.{storeCases}
+use Rattle.board.specs.Calls.{startOwn}
+use Rattle.board.proofs.Numbers.{after-cases}
+use Rattle.board.proofs.Replies.{start-refused, start-accepted}
 use borrow.Author.Needs.{needs}
 use Rattle.board.proofs.State.start.Statement.{statement}
 use Rattle.board.proofs.State.start.Tie as tie
 
-slice-aggregate-start-number : tie.Need-slice-aggregate-start-number
-slice-aggregate-start-number c = search needs
+check-requires : tie.Need-check-requires
+check-requires c κs = search needs
 
 start-number-requires : tie.Need-start-number-requires
 start-number-requires c κs = search needs
@@ -16,8 +19,10 @@ start-number-requires c κs = search needs
 returns : tie.Need-returns
 returns c =
     let a = c .before .before .before .before .before .args in
-    search
-    (needs, start-refused (a .self) (length (now (a .memory))) (a .slot) (a .tick) (c .before .start-number .ensures) (c .if1 .taken))
+    let s = a .self in
+    let m = length (now (a .memory)) in
+    let is = after-cases (storeCases s m) (startOwn (s .store) (a .slot)) refl (c .before .before .before .check .ensures .number-is) (c .before .start-number .ensures) in
+    search (needs, start-refused s m (a .slot) (a .tick) is (c .if1 .taken))
 
 begin-requires : tie.Need-begin-requires
 begin-requires c κs = search needs
@@ -28,14 +33,16 @@ with-phase-requires c κs = search needs
 returns-2 : tie.Need-returns-2
 returns-2 c =
     let a = c .before .before .before .before .before .before .before .args in
-    search
-    (needs, start-accepted (a .self) (length (now (a .memory))) (a .slot) (a .tick) (c .before .before .before .start-number .ensures) (c .before .begin .ensures) (c .with-phase .ensures) (c .before .before .if1 .left))
+    let s = a .self in
+    let m = length (now (a .memory)) in
+    let is = after-cases (storeCases s m) (startOwn (s .store) (a .slot)) refl (c .before .before .before .before .before .check .ensures .number-is) (c .before .before .before .start-number .ensures) in
+    search (needs, start-accepted s m (a .slot) (a .tick) is (c .before .begin .ensures) (c .with-phase .ensures) (c .before .before .if1 .left))
 
 pub start-spec : {M : Type 1} → statement M
 start-spec =
     tie.close
     (tie.spec
-    slice-aggregate-start-number
+    check-requires
     start-number-requires
     returns
     begin-requires

@@ -1,66 +1,35 @@
--- `upload_region`, by its number.
--- Assumes nothing.
+-- `upload_region`, by its numbers. Assumes nothing.
 use denote.Ref.{now}
-use lib.ListN.{length}
-use Rattle.board.specs.Calls.{uploadOwn}
-use Rattle.board.proofs.Guard.{call-within, call-length}
-use Rattle.board.proofs.Uploading.{upload-free, upload-slot, region-upload-refused, region-uploaded}
+use Rattle.board.proofs.Tests.{upload-slot}
+use Rattle.board.proofs.Replies.{region-upload-refused, region-uploaded}
 use borrow.Author.Needs.{needs}
 use Rattle.board.proofs.State.upload_region.Statement.{statement}
 use Rattle.board.proofs.State.upload_region.Tie as tie
 
-slice-aggregate-upload-number : tie.Need-slice-aggregate-upload-number
-slice-aggregate-upload-number c = search needs
-
-upload-number-requires : tie.Need-upload-number-requires
-upload-number-requires c κs = search needs
+check-upload-requires : tie.Need-check-upload-requires
+check-upload-requires c κs = search needs
 
 returns : tie.Need-returns
 returns c =
-    let a = c .before .before .before .before .before .before .args in
-    search
-    (needs, region-upload-refused (a .self) (now (a .memory)) (a .slot) (c .before .upload-number .ensures) (a .x) (a .y) (a .width) (a .height) (now (a .payload)) (c .if1 .taken))
-
-array-share-prefix-file : tie.Need-array-share-prefix-file
-array-share-prefix-file c =
-    let a = c .before .before .before .before .before .before .args in
-    let s = a .self in
-    let m = now (a .memory) in
-    call-within s (length m) (uploadOwn s (a .slot)) (upload-free s m (a .slot) (c .before .upload-number .ensures) (c .if1 .left))
-
-slice-aggregate-place-region : tie.Need-slice-aggregate-place-region
-slice-aggregate-place-region c =
-    let a = c .before .before .before .before .before .before .before .args in
-    let s = a .self in
-    let m = now (a .memory) in
-    call-length s (length m) (uploadOwn s (a .slot)) (upload-free s m (a .slot) (c .before .before .upload-number .ensures) (c .before .if1 .left))
+    let a = c .before .before .before .before .before .args in
+    search (needs, region-upload-refused (a .self) (now (a .memory)) (a .slot) (c .before .before .check-upload .ensures .number-is) (a .x) (a .y) (a .width) (a .height) (now (a .payload)) (c .if1 .taken))
 
 place-region-requires : tie.Need-place-region-requires
 place-region-requires c κs =
-    let a = c .before .before .before .before .before .before .before .before .args in
-    upload-slot (a .self) (now (a .memory)) (a .slot) (c .before .before .before .upload-number .ensures) (c .before .before .if1 .left)
+    let a = c .before .before .before .before .before .before .before .args in
+    upload-slot (a .self) _ (a .slot) (c .before .before .before .before .check-upload .ensures) (c .before .before .if1 .left)
 
 same-length : tie.Need-same-length
 same-length c = search needs
 
 returns-2 : tie.Need-returns-2
 returns-2 c =
-    let a = c .before .before .before .before .before .before .before .before .before .before .before .args in
-    search (
-      needs,
-      region-uploaded (a .self) (now (a .memory)) (a .slot) (c .before .before .before .before .before .before .upload-number .ensures) (a .x) (a .y) (a .width) (a .height) (now (a .payload)) (c .before .before .before .before .before .if1 .left)
-          (c .before .before .place-region .ensures),
-    )
+    let a = c .before .before .before .before .before .before .before .before .before .before .args in
+    let found = c .before .before .before .before .before .before .before .check-upload .ensures in
+    let zero = c .before .before .before .before .before .if1 .left in
+    search
+    (needs, region-uploaded (a .self) (now (a .memory)) (a .slot) (found .number-is) (a .x) (a .y) (a .width) (a .height) (now (a .payload)) zero (found .plan zero .shape-is) (c .before .before .place-region .ensures))
 
 pub upload-region-spec : {M : Type 1} → statement M
 upload-region-spec =
-    tie.close
-    (tie.spec
-    slice-aggregate-upload-number
-    upload-number-requires
-    returns
-    array-share-prefix-file
-    slice-aggregate-place-region
-    place-region-requires
-    same-length
-    returns-2)
+    tie.close (tie.spec check-upload-requires returns place-region-requires same-length returns-2)

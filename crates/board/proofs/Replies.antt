@@ -1,0 +1,237 @@
+-- What each call replies, by its number.
+-- Assumes nothing.
+use mathlib.Core.Path.{_≡_, refl, sym, ap, _∙_}
+use mathlib.Core.Bool.{true, false}
+use mathlib.Core.List.{List, _++_}
+use Prim.Native.Nat.{ℕ, _≤_, _<_}
+use native.Mathlib.Omega.{arith}
+use borrow.Author.Tests.{le-leb, lt-leb, eq-eqb, ne-eqb, eqb-true, not-false}
+use lib.ListN.{length, replicate, length-replicate}
+use Rattle.lists.specs.Lists.{overlayAt}
+use Rattle.lists.specs.Rules.{Case, firstOf}
+use Rattle.lists.proofs.Rules.{None, past, and-left, taken, some-number, none-of, some-append, none-append, first-map}
+use Rattle.lists.proofs.Lists.{overlay-whole}
+use Rattle.panel.specs.declared.Shape.{Shape}
+use Rattle.settings.specs.Settings.{settingsGood, shapeIn, longestFile}
+use Rattle.settings.specs.declared.Plan.{Plan}
+use Rattle.settings.proofs.Accepted.{good-short}
+use Rattle.picture.specs.Regions.{regionCases}
+use Rattle.bitmap.specs.Header.{fileLength}
+use Rattle.bitmap.specs.Bitmap.{bitmapGood}
+use Rattle.run.specs.Runs.{begun}
+use Rattle.run.specs.declared.Run.{Run}
+use Rattle.run.specs.declared.Tick.{Tick}
+use Rattle.run.specs.declared.Phase.{Phase}
+use Rattle.run.specs.declared.Phase.the-variants.{Abandoned, Running}
+use Rattle.poll.specs.HandOut.{outcome}
+use Rattle.poll.specs.declared.Answer.{Answer}
+use Rattle.poll.specs.declared.Answer.the-variants.{Refused}
+use Rattle.board.specs.State.{sizesOf, withPhase, storeBytes, storeCases, emptyState, openedState}
+use Rattle.board.specs.Calls.{reply, openCases, opening, uploadCases, regionDrawn, bitmapCases, bitmapDrawn, regionUpload, bitmapUpload, startCases, starting, abandonCases, abandoning, polling, inState, pollPhase, polled, writeCases, bitmapWritten, bitmapWrite}
+use Rattle.board.specs.Facts.{bitmapPlaced, regionPlaced}
+use Rattle.board.specs.declared.State.{State}
+use Rattle.board.specs.declared.Reply.{Reply}
+
+-- ---- opening
+
+module _ (file : List ℕ) (n m : ℕ) where
+  pub open-2 : settingsGood file ≡ false → 2 ≡ firstOf (openCases file n m) (λ n. n) 0
+  open-2 e = rw e
+
+  module _ (good : settingsGood file ≡ true) where
+    pub open-low : n < 1 → 1 ≡ firstOf (openCases file n m) (λ n. n) 0
+    open-low l = rw (good, lt-leb 1 n l)
+
+    pub open-high : 1 ≤ n → 7 < n → 1 ≡ firstOf (openCases file n m) (λ n. n) 0
+    open-high l h = rw (good, le-leb 1 n l, lt-leb n 7 h)
+
+    -- k is the length that a store of slots 0 to n has
+    module _ (l : 1 ≤ n) (h : n ≤ 7) {shape : Shape} (sizes : shape ≡ shapeIn file) {k : ℕ} (bytes : k ≡ storeBytes shape n) where
+      is : k ≡ storeBytes (shapeIn file) n
+      is = bytes ∙ ap (λ (z : Shape). storeBytes z n) sizes
+
+      pub open-room : (m ≡ k → ⊥) → 1 ≡ firstOf (openCases file n m) (λ n. n) 0
+      open-room d = rw (good, le-leb 1 n l, le-leb n 7 h, ← is, ne-eqb m k d)
+
+      pub open-0 : m ≡ k → 0 ≡ firstOf (openCases file n m) (λ n. n) 0
+      open-0 e = rw (good, le-leb 1 n l, le-leb n 7 h, ← is, eq-eqb m k e)
+
+module _ (file : List ℕ) (n : ℕ) (memory : List ℕ) {r : ℕ} (is : r ≡ firstOf (openCases file n (length memory)) (λ n. n) 0) where
+  pub open-refused : {state : State} → state ≡ emptyState → (r ≡ 0 → ⊥) → (reply r state, memory) ≡ opening file n memory
+  unfolding opening
+  open-refused e d =
+      ap (λ (s : State). (reply r s, memory)) e
+      ∙ some-number (openCases file n (length memory)) (λ number. (reply number emptyState, memory))
+      (reply 0 (openedState file n), replicate (length memory) 0xFF) is d
+
+  module _ (z : r ≡ 0) where
+    free : None (openCases file n (length memory))
+    free = none-of (openCases file n (length memory)) refl is z
+
+    pub open-short : length file ≤ longestFile
+    open-short = good-short file (good free) where
+      good : None (openCases file n (length memory)) → settingsGood file ≡ true
+      good (past e rest) = not-false (settingsGood file) e
+
+    pub open-accepted : {state : State} {after : List ℕ} → state ≡ openedState file n
+        → after ≡ overlayAt 0 (replicate (length memory) 0xFF) memory → (reply 0 state, after) ≡ opening file n memory
+    unfolding opening
+    open-accepted {state} {after} e f =
+        let white : List ℕ = replicate (length memory) 0xFF in
+        let g : after ≡ white = f ∙ overlay-whole white memory (rw length-replicate (omega arith)) in
+        rw (e, g)
+        (sym
+        (taken (openCases file n (length memory)) (λ number. (reply number emptyState, memory))
+        (reply 0 (openedState file n), white) free))
+
+-- ---- uploads: what is put into a slot, and the calls
+
+module _ (shape : Shape) (memory : List ℕ) (slot : ℕ) (file : List ℕ) where
+  pub bitmap-4 : bitmapGood (shape .bytes) (shape .rows) (shape .stride) file ≡ false → (4, memory) ≡ bitmapPlaced shape memory slot file
+  bitmap-4 e = rw e
+
+  module _ (good : bitmapGood (shape .bytes) (shape .rows) (shape .stride) file ≡ true) where
+    pub bitmap-room : fileLength (shape .rows) (shape .stride) ≤ length file
+    unfolding bitmapGood
+    bitmap-room =
+        let e : length file ≡ fileLength (shape .rows) (shape .stride) = eqb-true _ _ (and-left _ _ good) in
+        omega arith
+
+    pub bitmap-0 : {after : List ℕ} → after ≡ bitmapDrawn shape memory slot file → (0, after) ≡ bitmapPlaced shape memory slot file
+    bitmap-0 {after} e = ap (λ (l : List ℕ). (0, l)) e ∙ rw good
+
+module _ (shape : Shape) (memory : List ℕ) (slot x y width height : ℕ) (payload : List ℕ) {r : ℕ}
+    (is : r ≡ firstOf (regionCases (shape .bytes) (shape .rows) x y width height payload) (λ n. n) 0) where
+  abbrev own : List Case
+  own = regionCases (shape .bytes) (shape .rows) x y width height payload
+
+  pub region-refused : (r ≡ 0 → ⊥) → (r, memory) ≡ regionPlaced shape memory slot x y width height payload
+  region-refused = some-number own (λ n. (n, memory)) (0, regionDrawn shape memory slot x y width height payload) is
+
+  pub region-accepted : r ≡ 0 → {after : List ℕ} → after ≡ regionDrawn shape memory slot x y width height payload
+      → (0, after) ≡ regionPlaced shape memory slot x y width height payload
+  region-accepted z {after} e =
+      ap (λ (l : List ℕ). (0, l)) e
+      ∙ sym (taken own (λ n. (n, memory)) (0, regionDrawn shape memory slot x y width height payload) (none-of own refl is z))
+
+module _ (state : State) (memory : List ℕ) (slot : ℕ) {r : ℕ}
+    (is : r ≡ firstOf (uploadCases state (length memory) slot) (λ n. n) 0) where
+  -- a number and a memory in a reply
+  abbrev replied : ℕ × List ℕ → Reply × List ℕ
+  replied p = (reply (p .0) state, p .1)
+
+  -- what was put into the slot of these cases, and its number, is the reply of both
+  placed : (more : List Case) (after : List ℕ) → r ≡ 0 → {n : ℕ} {left : List ℕ}
+      → _≡_ {A = ℕ × List ℕ} (n, left) (firstOf more (λ k. (k, memory)) (0, after))
+      → _≡_ {A = Reply × List ℕ} (reply n state, left)
+      (firstOf (uploadCases state (length memory) slot ++ more) (λ k. (reply k state, memory)) (reply 0 state, after))
+  placed more after z e =
+      let cases = uploadCases state (length memory) slot in
+      ap replied e
+      ∙ first-map replied more (λ k. (k, memory)) (0, after)
+      ∙ none-append cases more (λ k. (reply k state, memory)) (reply 0 state, after) (none-of cases refl is z)
+
+  module _ (file : List ℕ) where
+    pub bitmap-upload-refused : (r ≡ 0 → ⊥) → (reply r state, memory) ≡ bitmapUpload state memory slot file
+    unfolding bitmapUpload
+    bitmap-upload-refused =
+        some-append (uploadCases state (length memory) slot) (bitmapCases (sizesOf state) file) (λ n. (reply n state, memory))
+        (reply 0 state, bitmapDrawn (sizesOf state) memory slot file) is
+
+    pub bitmap-uploaded : r ≡ 0 → {shape : Shape} → shape ≡ sizesOf state → {n : ℕ} {after : List ℕ}
+        → (n, after) ≡ bitmapPlaced shape memory slot file → (reply n state, after) ≡ bitmapUpload state memory slot file
+    unfolding bitmapUpload
+    bitmap-uploaded z sizes e =
+        placed (bitmapCases (sizesOf state) file) (bitmapDrawn (sizesOf state) memory slot file) z
+        (e ∙ ap (λ (s : Shape). bitmapPlaced s memory slot file) sizes)
+
+  module _ (x y width height : ℕ) (payload : List ℕ) where
+    abbrev region : List Case
+    region = regionCases (sizesOf state .bytes) (sizesOf state .rows) x y width height payload
+
+    pub region-upload-refused : (r ≡ 0 → ⊥) → (reply r state, memory) ≡ regionUpload state memory slot x y width height payload
+    unfolding regionUpload
+    region-upload-refused =
+        some-append (uploadCases state (length memory) slot) region (λ n. (reply n state, memory))
+        (reply 0 state, regionDrawn (sizesOf state) memory slot x y width height payload) is
+
+    pub region-uploaded : r ≡ 0 → {shape : Shape} → shape ≡ sizesOf state → {n : ℕ} {after : List ℕ}
+        → (n, after) ≡ regionPlaced shape memory slot x y width height payload
+        → (reply n state, after) ≡ regionUpload state memory slot x y width height payload
+    unfolding regionUpload
+    region-uploaded z sizes e =
+        placed region (regionDrawn (sizesOf state) memory slot x y width height payload) z
+        (e ∙ ap (λ (s : Shape). regionPlaced s memory slot x y width height payload) sizes)
+
+-- ---- start and abandon
+
+module _ (state : State) (m slot : ℕ) (tick : Tick) {r : ℕ} (is : r ≡ firstOf (startCases state m slot) (λ n. n) 0) where
+  pub start-refused : (r ≡ 0 → ⊥) → reply r state ≡ starting state m slot tick
+  unfolding starting
+  start-refused =
+      some-number (startCases state m slot) (λ number. reply number state) (reply 0 (withPhase state (Running (begun slot tick)))) is
+
+  pub start-accepted : {run : Run} {after : State} → run ≡ begun slot tick → after ≡ withPhase state (Running run) → r ≡ 0
+      → reply 0 after ≡ starting state m slot tick
+  unfolding starting
+  start-accepted e f z =
+      rw (f, e)
+      (sym
+      (taken (startCases state m slot) (λ number. reply number state) (reply 0 (withPhase state (Running (begun slot tick))))
+      (none-of (startCases state m slot) refl is z)))
+
+module _ (state : State) (m : ℕ) {r : ℕ} (is : r ≡ firstOf (abandonCases state m) (λ n. n) 0) where
+  pub abandon-refused : (r ≡ 0 → ⊥) → reply r state ≡ abandoning state m
+  unfolding abandoning
+  abandon-refused = some-number (abandonCases state m) (λ number. reply number state) (reply 0 (withPhase state Abandoned)) is
+
+  pub abandon-accepted : {after : State} → after ≡ withPhase state Abandoned → r ≡ 0 → reply 0 after ≡ abandoning state m
+  unfolding abandoning
+  abandon-accepted f z =
+      rw f
+      (sym
+      (taken (abandonCases state m) (λ number. reply number state) (reply 0 (withPhase state Abandoned))
+      (none-of (abandonCases state m) refl is z)))
+
+-- ---- the writer
+
+module _ (state : State) (memory : List ℕ) (slot : ℕ) (out : List ℕ) {r : ℕ}
+    (is : r ≡ firstOf (writeCases state (length memory) slot (length out)) (λ n. n) 0) where
+  pub write-refused : (r ≡ 0 → ⊥) → (reply r state, out) ≡ bitmapWrite state memory slot out
+  unfolding bitmapWrite
+  write-refused =
+      some-number (writeCases state (length memory) slot (length out)) (λ number. (reply number state, out))
+      (reply 0 state, bitmapWritten (sizesOf state) memory slot out) is
+
+  pub write-accepted : r ≡ 0 → {shape : Shape} → shape ≡ sizesOf state → {after : List ℕ} → after ≡ bitmapWritten shape memory slot out
+      → (reply 0 state, after) ≡ bitmapWrite state memory slot out
+  unfolding bitmapWrite
+  write-accepted z {shape} sizes e =
+      ap (λ (l : List ℕ). (reply 0 state, l)) (e ∙ ap (λ (s : Shape). bitmapWritten s memory slot out) sizes)
+      ∙ sym
+      (taken (writeCases state (length memory) slot (length out)) (λ number. (reply number state, out))
+      (reply 0 state, bitmapWritten (sizesOf state) memory slot out)
+      (none-of (writeCases state (length memory) slot (length out)) refl is z))
+
+-- ---- polls
+
+module _ (state : State) (tick : Tick) (memory out : List ℕ) {r : ℕ} (is : r ≡ firstOf (storeCases state (length memory)) (λ n. n) 0) where
+  pub poll-refused : (r ≡ 0 → ⊥) → polling (Refused r) state memory out ≡ polled state tick memory out
+  unfolding polled
+  poll-refused =
+      some-number (storeCases state (length memory)) (λ n. polling (Refused n) state memory out)
+      (pollPhase state tick memory out (state .store .phase)) is
+
+  pub poll-in : r ≡ 0 → (phase : Phase) → state .store .phase ≡ phase → pollPhase state tick memory out phase ≡ polled state tick memory out
+  unfolding polled
+  poll-in z phase e =
+      ap (pollPhase state tick memory out) (sym e)
+      ∙ sym
+      (taken (storeCases state (length memory)) (λ n. polling (Refused n) state memory out)
+      (pollPhase state tick memory out (state .store .phase)) (none-of (storeCases state (length memory)) refl is z))
+
+-- the whole poll, from that on the state's parts
+pub poll-whole : (state : State) (tick : Tick) (memory out : List ℕ) {given : Answer} {after : Phase} {next : State} {m o : List ℕ}
+    → next ≡ withPhase state after → inState state (outcome given after m o) ≡ polled state tick memory out
+    → polling given next m o ≡ polled state tick memory out
+poll-whole state tick memory out {given} {after} {next} {m} {o} e f = rw e f

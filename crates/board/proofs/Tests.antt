@@ -1,0 +1,139 @@
+-- What each call has tested where it refuses nothing, by name: only this file knows in which order a call's own cases stand.
+-- Assumes nothing.
+use mathlib.Core.Path.{_≡_, refl, sym, ap, _∙_}
+use mathlib.Core.Bool.{true, false, not}
+use mathlib.Core.List.{List, _++_}
+use Prim.Native.Nat.{ℕ, _≤_, _<_}
+use native.Mathlib.Omega.{arith}
+use borrow.Author.Tests.{leb-true, ltb-false, le-leb, le-ltb, not-false}
+use lib.Dec.{leb}
+use lib.ListN.{length}
+use Rattle.lists.specs.Rules.{Case, firstOf}
+use Rattle.lists.proofs.Rules.{numbered, and-left, and-right, some-append, None, none, past, none-of, none-parts}
+use Rattle.panel.specs.declared.Shape.{Shape}
+use Rattle.picture.proofs.Slots.{slot-in}
+use Rattle.settings.specs.declared.Plan.{Plan}
+use Rattle.bitmap.specs.Header.{fileLength}
+use Rattle.run.specs.Conditions.{runValid}
+use Rattle.run.specs.declared.Run.{Run}
+use Rattle.run.proofs.Valid.{valid}
+use Rattle.poll.specs.Facts.{Room}
+use Rattle.board.specs.State.{fileOf, sizesOf, storeCases}
+use Rattle.board.specs.Calls.{takesPictures, isRunning, isAbandoned, isRunsSlot, uploadOwn, uploadCases, startOwn, abandonOwn, writeOwn, writeCases}
+use Rattle.board.specs.Facts.{numberAfter, Found, SlotOf}
+use Rattle.board.specs.declared.State.{State}
+use Rattle.board.specs.declared.Store.{Store}
+use Rattle.board.specs.declared.checks.Checked.{Checked}
+use Rattle.board.proofs.Numbers.{after-cases, none-before}
+use Rattle.board.proofs.States.{Tested, tested, valid-state, slot-of}
+
+-- ---- a call's own cases
+
+-- a slot that takes pictures: 1 to n
+pub record Takes (store : Store) (slot : ℕ) : Type 0 where
+  pub low : 1 ≤ slot
+  pub high : slot ≤ store .slots
+
+takes : (store : Store) (slot : ℕ) → not (takesPictures (store .slots) slot) ≡ false → Takes store slot
+takes store slot e =
+    let both = not-false (takesPictures (store .slots) slot) e in
+    record {
+      low = leb-true _ _ (and-left (leb 1 slot) (leb slot (store .slots)) both);
+      high = leb-true _ _ (and-right (leb 1 slot) (leb slot (store .slots)) both);
+    }
+
+pub record Uploadable (store : Store) (slot : ℕ) : Type 0 where
+  pub takes : Takes store slot
+  pub not-runs : isRunsSlot (store .phase) slot ≡ false
+
+pub uploadable : (store : Store) (slot : ℕ) → None (uploadOwn store slot) → Uploadable store slot
+uploadable store slot (past e (past f rest)) = record { takes = takes store slot e; not-runs = f }
+
+pub upload-free : (store : Store) (slot : ℕ) → Uploadable store slot → None (uploadOwn store slot)
+upload-free store slot may =
+    let both : takesPictures (store .slots) slot ≡ true =
+    rw (le-leb 1 slot (may .takes .low), le-leb slot (store .slots) (may .takes .high)) in
+    past (ap not both) (past (may .not-runs) none)
+
+pub record Startable (store : Store) (slot : ℕ) : Type 0 where
+  pub idle : isRunning (store .phase) ≡ false
+  pub whole : isAbandoned (store .phase) ≡ false
+  pub takes : Takes store slot
+
+pub startable : (store : Store) (slot : ℕ) → None (startOwn store slot) → Startable store slot
+startable store slot (past e (past f (past g rest))) = record { idle = e; whole = f; takes = takes store slot g }
+
+pub running : (store : Store) → None (abandonOwn store) → isRunning (store .phase) ≡ true
+running store (past e rest) = not-false (isRunning (store .phase)) e
+
+pub record Writable (store : Store) (shape : Shape) (slot outLength : ℕ) : Type 0 where
+  pub high : slot ≤ store .slots
+  pub room : fileLength (shape .rows) (shape .stride) ≤ outLength
+
+pub writable : (store : Store) (shape : Shape) (slot outLength : ℕ) → None (writeOwn store shape slot outLength) → Writable store shape slot outLength
+writable store shape slot outLength (past e (past f rest)) = record { high = ltb-false _ _ e; room = ltb-false _ _ f }
+
+pub write-free : (store : Store) (shape : Shape) (slot outLength : ℕ) → Writable store shape slot outLength → None (writeOwn store shape slot outLength)
+write-free store shape slot outLength may = past (le-ltb _ _ (may .high)) (past (le-ltb _ _ (may .room)) none)
+
+-- ---- the numbers that the functions found
+
+module _ (state : State) (cases own : List Case) {checked : Checked} (found : Found state cases checked) where
+  -- the store's number stands
+  pub first-found : (checked .number ≡ 0 → ⊥) → Found state (cases ++ own) (record { number = checked .number; plan = checked .plan })
+  first-found d =
+      record { number-is = some-append cases own (λ n. n) 0 (found .number-is) d; plan = λ z. absurd (d z) }
+
+  -- its own after it
+  pub more-found : numbered cases ≡ true → {r : ℕ} → r ≡ numberAfter (checked .number) own
+      → Found state (cases ++ own) (record { number = r; plan = checked .plan })
+  more-found p e =
+      record {
+        number-is = after-cases cases own p (found .number-is) e;
+        plan = λ z. found .plan (none-before own e z);
+      }
+
+pub store-tested : (state : State) (memoryLength : ℕ) {checked : Checked} → Found state (storeCases state memoryLength) checked
+    → checked .number ≡ 0 → Tested state memoryLength
+store-tested state memoryLength found z =
+    tested state memoryLength (none-of (storeCases state memoryLength) refl (found .number-is) z)
+
+pub write-found : (state : State) (memoryLength slot outLength : ℕ) {checked : Checked} → Found state (storeCases state memoryLength) checked
+    → checked .number ≡ 0 → {r : ℕ} → r ≡ numberAfter (checked .number) (writeOwn (state .store) (checked .plan .shape) slot outLength)
+    → Found state (writeCases state memoryLength slot outLength) (record { number = r; plan = checked .plan })
+write-found state memoryLength slot outLength {checked} found z e =
+    let is = found .plan z .shape-is in
+    more-found state (storeCases state memoryLength) (writeOwn (state .store) (sizesOf state) slot outLength) found refl
+    (e ∙ ap (λ (s : Shape). numberAfter (checked .number) (writeOwn (state .store) s slot outLength)) is)
+
+-- ---- slots that lie in the memory
+
+module _ (state : State) (memoryLength slot : ℕ) {checked : Checked} where
+  pub upload-slot : Found state (uploadCases state memoryLength slot) checked → checked .number ≡ 0
+      → SlotOf (checked .plan .shape) memoryLength slot
+  upload-slot found z =
+      let cases = storeCases state memoryLength in
+      let free = none-parts cases (uploadOwn (state .store) slot) (none-of (uploadCases state memoryLength slot) refl (found .number-is) z) in
+      slot-of state memoryLength slot (tested state memoryLength (free .0)) (uploadable (state .store) slot (free .1) .takes .high) (found .plan z)
+
+  pub write-slot : (outLength : ℕ) → Found state (writeCases state memoryLength slot outLength) checked → checked .number ≡ 0
+      → (SlotOf (checked .plan .shape) memoryLength slot) × (fileLength (checked .plan .shape .rows) (checked .plan .shape .stride) ≤ outLength)
+  write-slot outLength found z =
+      let cases = storeCases state memoryLength in
+      let own = writeOwn (state .store) (sizesOf state) slot outLength in
+      let free = none-parts cases own (none-of (writeCases state memoryLength slot outLength) refl (found .number-is) z) in
+      let may = writable (state .store) (sizesOf state) slot outLength (free .1) in (
+        slot-of state memoryLength slot (tested state memoryLength (free .0)) (may .high) (found .plan z),
+        rw (found .plan z .shape-is) (may .room),
+      )
+
+-- the slot of a valid run
+pub room : (state : State) (run : Run) (memory : List ℕ) → runValid (fileOf state) (state .store .slots) run ≡ true
+    → Tested state (length memory) → Room (fileOf state) run memory
+room state run memory e t =
+    let facts = valid (fileOf state) (state .store .slots) run e in
+    let v = valid-state state (t .valid) in
+    record {
+      low = facts .low;
+      slot-in = slot-in (sizesOf state .bytes) (sizesOf state .rows) (state .store .slots) (length memory) (t .exact) (run .slot) (v .few) (facts .high);
+    }

@@ -1,0 +1,17 @@
+-- `empty_state`: no settings and no run. Assumes nothing.
+use mathlib.Core.Path.{ap}
+use Rattle.settings.specs.declared.Settings.{Settings}
+use Rattle.run.specs.declared.Phase.the-variants.{Idle}
+use Rattle.board.specs.declared.State.{State}
+use borrow.Author.Needs.{needs}
+use Rattle.board.proofs.empty_state.Statement.{statement}
+use Rattle.board.proofs.empty_state.Tie as tie
+
+no-settings-requires : tie.Need-no-settings-requires
+no-settings-requires c κs = search needs
+
+returns : tie.Need-returns
+returns c = rw (c .no-settings .ensures)
+
+pub empty-state-spec : {M : Type 1} → statement M
+empty-state-spec = tie.close (tie.spec no-settings-requires returns)

@@ -1,0 +1,79 @@
+// The tests that every call on the store begins with: 13 and 1.
+ghost use mathlib.Core.Path.{_≡_};
+ghost use Prim.Native.Nat.{_≤_};
+ghost use Rattle.panel.specs.Facts.{Sized};
+ghost use Rattle.settings.specs.Plans.{PlanOf};
+ghost use Rattle.board.specs.State.{phaseValid, storeBytes, storeCases};
+ghost use Rattle.board.specs.Facts.{stateOf, StatePlanned, Found};
+use crate::Store;
+use panel::Shape;
+use run::Phase;
+use settings::Plan;
+use settings::Planned;
+
+// The number of a refusal; or 0, and the plan of the settings file.
+pub struct Checked {
+    pub number: u8,
+    pub plan: Plan,
+}
+
+// Whether a run under way is valid.
+fn phase_valid(file: &[u8], plan: Plan, store: Store) -> bool
+    requires { ⌜ PlanOf (now file) plan ⌝ }
+    ensures { λ r. ⌜ r ≡ phaseValid (now (file .entry)) (store .slots) (store .phase) ⌝ }
+{
+    let phase = store.phase;
+    match phase {
+        Phase::Idle => true,
+        Phase::Abandoned => true,
+        Phase::Running(run) => run::run_valid(file, plan, store.slots, run),
+    }
+}
+
+// Whether a state keeps its conditions, and the plan of its file where it does. The file is the first `len` bytes.
+fn plan_state(file: &[u8], len: usize, store: Store) -> Planned
+    ensures { λ r. ⌜ StatePlanned (stateOf (now (file .entry)) len store) r ⌝ }
+{
+    if file.len() < len {
+        return settings::no_plan();
+    }
+    let kept = &file[..len];
+    let planned = settings::plan_of(kept);
+    let plan = planned.plan;
+    if !planned.ok {
+        return settings::no_plan();
+    }
+    if store.slots < 1 {
+        return settings::no_plan();
+    }
+    if 7 < store.slots {
+        return settings::no_plan();
+    }
+    let ok = phase_valid(kept, plan, store);
+    Planned { ok, plan }
+}
+
+// The bytes of a store of slots 0 to n.
+pub fn store_bytes(shape: Shape, n: u32) -> usize
+    requires { ⌜ (Sized shape) × (n ≤ 7) ⌝ }
+    ensures { λ r. ⌜ r ≡ storeBytes shape n ⌝ }
+{
+    (n as usize + 1) * (shape.rows * shape.bytes)
+}
+
+// 13 or 1.
+pub fn check_store(file: &[u8], len: usize, store: Store, memory_len: usize) -> Checked
+    ensures { λ r. ⌜ Found (stateOf (now (file .entry)) len store)
+        (storeCases (stateOf (now (file .entry)) len store) «memory_len») r ⌝ }
+{
+    let planned = plan_state(file, len, store);
+    let plan = planned.plan;
+    if !planned.ok {
+        return Checked { number: 13, plan };
+    }
+    let shape = plan.shape;
+    if memory_len != store_bytes(shape, store.slots) {
+        return Checked { number: 1, plan };
+    }
+    Checked { number: 0, plan }
+}

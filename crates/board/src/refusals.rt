@@ -1,0 +1,136 @@
+// The numbers of the calls, case by case: `before` is the number given so far, and 0 where there is none.
+ghost use mathlib.Core.Path.{_≡_};
+ghost use Prim.Native.Nat.{_≤_};
+ghost use mathlib.Core.Bool.{cond};
+ghost use lib.Dec.{eqb};
+ghost use Rattle.lists.specs.Rules.{firstOf};
+ghost use Rattle.panel.specs.Facts.{Sized};
+ghost use Rattle.board.specs.Calls.{
+  takesPictures,
+  isRunning,
+  isAbandoned,
+  isRunsSlot,
+  openCases,
+  uploadOwn,
+  startOwn,
+  abandonOwn,
+  writeOwn,
+};
+ghost use Rattle.board.specs.Facts.{numberAfter};
+use crate::Store;
+use crate::checks;
+use panel::Shape;
+use run::Phase;
+
+// The number given so far; where there is none, that of one more case.
+fn or_number(before: u8, applies: bool, number: u8) -> u8
+    ensures { λ r. ⌜ r ≡ cond (eqb before 0) (cond applies number 0) before ⌝ }
+{
+    if before != 0 {
+        return before;
+    }
+    if applies {
+        return number;
+    }
+    0
+}
+
+fn is_running(phase: Phase) -> bool
+    ensures { λ r. ⌜ r ≡ isRunning phase ⌝ }
+{
+    match phase {
+        Phase::Idle => false,
+        Phase::Abandoned => false,
+        Phase::Running(_) => true,
+    }
+}
+
+fn is_abandoned(phase: Phase) -> bool
+    ensures { λ r. ⌜ r ≡ isAbandoned phase ⌝ }
+{
+    match phase {
+        Phase::Idle => false,
+        Phase::Abandoned => true,
+        Phase::Running(_) => false,
+    }
+}
+
+// Whether a slot is that of the run under way.
+fn is_runs_slot(phase: Phase, slot: u32) -> bool
+    ensures { λ r. ⌜ r ≡ isRunsSlot phase slot ⌝ }
+{
+    match phase {
+        Phase::Idle => false,
+        Phase::Abandoned => false,
+        Phase::Running(run) => run.slot == slot,
+    }
+}
+
+// Whether a slot takes uploads and starts.
+fn takes_pictures(slots: u32, slot: u32) -> bool
+    ensures { λ r. ⌜ r ≡ takesPictures slots slot ⌝ }
+{
+    if slot < 1 {
+        return false;
+    }
+    slot <= slots
+}
+
+// 2 or 1.
+pub fn open_number(file: &[u8], n: u32, memory_len: usize) -> u8
+    ensures { λ r. ⌜ r ≡ firstOf (openCases (now (file .entry)) n «memory_len») (λ n. n) 0 ⌝ }
+{
+    let planned = settings::plan_of(file);
+    let plan = planned.plan;
+    let shape = plan.shape;
+    if !planned.ok {
+        return 2;
+    }
+    if n < 1 {
+        return 1;
+    }
+    if 7 < n {
+        return 1;
+    }
+    if memory_len != checks::store_bytes(shape, n) {
+        return 1;
+    }
+    0
+}
+
+// 3 or 7.
+pub fn upload_number(before: u8, store: Store, slot: u32) -> u8
+    ensures { λ r. ⌜ r ≡ numberAfter before (uploadOwn store slot) ⌝ }
+{
+    let phase = store.phase;
+    let absent = or_number(before, !takes_pictures(store.slots, slot), 3);
+    or_number(absent, is_runs_slot(phase, slot), 7)
+}
+
+// 8, 12 or 3.
+pub fn start_number(before: u8, store: Store, slot: u32) -> u8
+    ensures { λ r. ⌜ r ≡ numberAfter before (startOwn store slot) ⌝ }
+{
+    let phase = store.phase;
+    let running = or_number(before, is_running(phase), 8);
+    let abandoned = or_number(running, is_abandoned(phase), 12);
+    or_number(abandoned, !takes_pictures(store.slots, slot), 3)
+}
+
+// 9.
+pub fn abandon_number(before: u8, store: Store) -> u8
+    ensures { λ r. ⌜ r ≡ numberAfter before (abandonOwn store) ⌝ }
+{
+    let phase = store.phase;
+    or_number(before, !is_running(phase), 9)
+}
+
+// 3 or 11.
+pub fn write_number(before: u8, store: Store, shape: Shape, slot: u32, out_len: usize) -> u8
+    requires { ⌜ Sized shape ⌝ }
+    ensures { λ r. ⌜ r ≡ numberAfter before (writeOwn store shape slot «out_len») ⌝ }
+{
+    let absent = or_number(before, store.slots < slot, 3);
+    let needed = bitmap::file_length(shape.rows, shape.stride);
+    or_number(absent, out_len < needed, 11)
+}

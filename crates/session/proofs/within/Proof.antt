@@ -1,0 +1,14 @@
+-- `session::within` meets its contract. Assumes nothing.
+use lib.ListN.{length-take}
+use native.Mathlib.Omega.{arith}
+use Rattle.session.proofs.within.Statement.{statement}
+use Rattle.session.proofs.within.Tie as tie
+
+returns : tie.Need-returns
+returns c = (omega arith, simp length-take (omega arith))
+
+returns-2 : tie.Need-returns-2
+returns-2 c = (omega arith, simp length-take (omega arith))
+
+pub within-spec : {M : Type 1} → statement M
+within-spec = tie.close (tie.spec returns returns-2)

@@ -1,0 +1,87 @@
+// How a start clock shows a bib: the loop of its firmware, and uploads before it, on a store of slots 0 and 1. The bus and the clock
+// are simulated: what would go to the panel stands in `bus`, one thing after another, and a wait moves the tick on. Exported for C,
+// where it is timed and compared.
+ghost use Prim.Native.Nat.{_≤_};
+ghost use lib.ListN.{length};
+use board::State;
+use poll::Answer;
+use run::Tick;
+
+// More polls than any run takes. A proved loop has to end, and nothing here says that the clock goes on.
+const ENOUGH: u32 = 20000;
+
+// The index n bytes after `at`, or the length of the bus where that is less.
+fn after(bus: &[u8], at: usize, n: usize) -> usize
+    requires { ⌜ at ≤ length (now bus) ⌝ }
+    ensures { λ r. ⌜ r ≤ length (now (bus .entry)) ⌝ }
+{
+    if bus.len() - at < n {
+        return bus.len();
+    }
+    at + n
+}
+
+// Shows slot 1: starts a run, and polls it until it is done. Answers how many bytes went to the panel, or 0 after a refusal.
+fn show(state: State, memory: &mut [u8], bus: &mut [u8]) -> usize {
+    let mut tick: u32 = 0;
+    let started = state.start(memory, 1, Tick(tick));
+    let mut state = started.state;
+    let mut at: usize = 0;
+    let mut left = ENOUGH;
+    while left > 0 {
+        let polled = state.poll(Tick(tick), memory, &mut bus[at..]);
+        let next = polled.state;
+        state = next;
+        let answer = polled.answer;
+        match answer {
+            Answer::Write(n) => at = after(bus, at, n),
+            Answer::Line(n) => at = after(bus, at, n),
+            Answer::Wait(ms) => tick = std::num::wrapping_add_u32(tick, ms),
+            Answer::Done => return at,
+            Answer::Refused(_) => return 0,
+        }
+        left -= 1;
+    }
+    0
+}
+
+// Opens a store, uploads a bitmap to slot 1 and shows it. Answers how many bytes went to the panel.
+#[no_mangle]
+pub extern "C" fn store_update(
+    settings: &[u8],
+    bitmap: &[u8],
+    memory: &mut [u8],
+    bus: &mut [u8],
+) -> usize {
+    let opened = board::open(settings, 1, memory);
+    let state = opened.state;
+    let uploaded = state.upload_bitmap(memory, 1, bitmap);
+    let state = uploaded.state;
+    show(state, memory, bus)
+}
+
+// Opens a store and uploads a bitmap to slot 1; answers the number of the upload.
+#[no_mangle]
+pub extern "C" fn store_bitmap(settings: &[u8], bitmap: &[u8], memory: &mut [u8]) -> u8 {
+    let opened = board::open(settings, 1, memory);
+    let state = opened.state;
+    let reply = state.upload_bitmap(memory, 1, bitmap);
+    reply.number
+}
+
+// Opens a store and uploads a region of slot 1; answers the number of the upload.
+#[no_mangle]
+pub extern "C" fn store_region(
+    settings: &[u8],
+    x: u32,
+    y: u32,
+    width: u32,
+    height: u32,
+    payload: &[u8],
+    memory: &mut [u8],
+) -> u8 {
+    let opened = board::open(settings, 1, memory);
+    let state = opened.state;
+    let reply = state.upload_region(memory, 1, x, y, width, height, payload);
+    reply.number
+}

@@ -1,0 +1,69 @@
+"""Runs the examples of docs/FORMATS.md: the listing of a settings file, the script for replay, and the bitmap file of a slot.
+
+Usage, from the repository's root: python3 -m tests.formats
+"""
+import re
+import subprocess
+import sys
+
+DOCUMENT = "docs/FORMATS.md"
+LISTING, REPLAY = "target/bin/settings_list", "target/bin/replay"
+
+
+def blocks(text):
+    """The examples: groups of lines that are indented by four spaces."""
+    return [[line[4:] for line in block.splitlines()] for block in re.findall(r"(?:^    .*\n?)+", text, re.M)]
+
+
+def run(program, data):
+    return subprocess.run([program], input=data, stdout=subprocess.PIPE, check=True).stdout
+
+
+def replayed(calls):
+    return run(REPLAY, "".join(call + "\n" for call in calls).encode("ascii")).decode("ascii").splitlines()
+
+
+def listing_example(block):
+    """`$ echo HEX | xxd -r -p | PROGRAM`, and what it prints."""
+    file = bytes.fromhex(re.fullmatch(r"\$ echo ([0-9A-F ]+)\|.*", block[0]).group(1))
+    return [("listing", run(LISTING, file).decode("ascii").splitlines(), block[1:])]
+
+
+def script_example(block):
+    """A call and its answer on each line; two points stand for bytes that are left out."""
+    pairs = [re.split("  +", line) for line in block]
+    for (call, typed), given in zip(pairs, replayed([call for call, _ in pairs])):
+        same = re.fullmatch(".*".join(map(re.escape, typed.split(".."))), given)
+        yield call, given, given if same else typed
+
+
+def bitmap_example(text, script):
+    """The rows of the table of a file: an index, and bytes that stand there."""
+    upload = next(line for line in script if line.startswith("region"))
+    opening = next(line for line in script if line.startswith("open"))
+    written = replayed([re.split("  +", opening)[0], re.split("  +", upload)[0], "write 1"])[-1]
+    file = bytes.fromhex(written.split(" ")[1])
+    table = text[text.index("This is the file"):].split("\n\n")[1]
+    for at, cells in re.findall(r"^\| ([\d,]+) \| (.*?) \|", table, re.M):
+        typed = bytes.fromhex("".join(re.findall("`([0-9A-F ]+)`", cells)))
+        index = int(at.replace(",", ""))
+        yield f"bitmap at {at}", file[index:index + len(typed)], typed
+
+
+def main():
+    with open(DOCUMENT, encoding="utf-8") as document:
+        text = document.read()
+    listing = next(block for block in blocks(text) if block[0].startswith("$ echo"))
+    script = next(block for block in blocks(text) if block[0].startswith("open "))
+    failed = passed = 0
+    for what, given, typed in (*listing_example(listing), *script_example(script), *bitmap_example(text, script)):
+        passed += given == typed
+        failed += given != typed
+        if given != typed:
+            print(f"{DOCUMENT}, {what}: {typed} there, but {given}")
+    print(f"{passed} passed, {failed} failed")
+    sys.exit(1 if failed else 0)
+
+
+if __name__ == "__main__":
+    main()
