@@ -2,8 +2,9 @@
 # make test       runs every test, then proves everything from nothing (the gate)
 # make tests      the tests outside Rattle alone
 # make bench      compares with plain C, and writes docs/BENCHMARKS.md
+# make layout     draws a layout's leaves as outlines; LIST="01 00" draws another list of boxes
 # make ghosting   simulates a season of trainees' mistakes, and writes docs/GHOSTING.md
-.PHONY: demo test tests build bench ghosting clean
+.PHONY: demo layout test tests build bench ghosting clean
 
 SHELL = /bin/bash
 CFLAGS = -std=c99 -O2 -Wall -Wextra -pedantic
@@ -19,6 +20,10 @@ demo:
 	    || { cat target/demo.log; exit 1; }
 	@$(PYTHON) -m demo.board $(PANELS)
 
+layout:
+	rt check layout_list
+	@$(PYTHON) -m demo.layout $(LIST)
+
 test: tests
 	rt ci
 
@@ -26,7 +31,7 @@ test: tests
 build:
 	rt staticlib start_board
 	rt staticlib update_loop
-	rt check settings_list bitmap_normal replay
+	rt check settings_list bitmap_normal layout_list replay
 
 tests: build
 	@mkdir -p $(OUT)
@@ -42,6 +47,8 @@ tests: build
 	$(PYTHON) -m tests.listing.compare target/bin/settings_list
 	@echo "== bitmaps made by other tools, and damaged ones"
 	$(PYTHON) -m tests.bitmaps.compare target/bin/bitmap_normal
+	@echo "== layouts against an independent implementation, every dot counted"
+	$(PYTHON) -m tests.layout.compare target/bin/layout_list
 	@echo "== every public call on the store has a place in demand 3"
 	$(PYTHON) tests/chain/calls.py
 	@echo "== random scripts of calls against an independent implementation, with the sums read from the bytes handed out"

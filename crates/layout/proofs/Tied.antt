@@ -1,0 +1,34 @@
+-- The theorem once more, of every call that keeps the contract of `layout` as the checker makes it from the source. A contract that is
+-- weakened in src/ is refused here, even where every function is still proved.
+-- Assumes nothing.
+use mathlib.Core.Path.{sym, subst}
+use mathlib.Core.List.{List}
+use Prim.Native.Nat.{ℕ}
+use borrow.Fn.World as World
+use borrow.Fn.Kinds as FnKinds
+use contract.Lifetimes as Lifetimes
+use denote.Triple.Clauses as Clauses
+use denote.Ref.{now}
+use Rattle.layout.specs.Tiling.{Tiled}
+use Rattle.layout.proofs.Tiling.{layout-tiles}
+use Rattle.layout.proofs.layout as layout-fn
+use Rattle.layout.proofs.layout.Kinds as layout-kinds
+use Rattle.layout.proofs.layout.Reads as layout-reads
+
+-- a call: its arguments, its result and its parameters at exit, for which the contract holds
+pub record Kept : Type 0 where
+  pub lifetimes : Lifetimes.Lfts 1
+  pub args : World.ArgsD layout-fn.signature lifetimes
+  pub result : World.ResD layout-fn.signature lifetimes
+  pub exit : Clauses.AtExit (FnKinds.endedOf 1 layout-kinds.ps layout-kinds.r) lifetimes
+  pub promised : layout-reads.Learnt lifetimes args result exit
+
+-- the places of its arguments are named here and nowhere else
+abbrev pub panelIn : Kept → ℕ
+panelIn c = c .args .0
+
+abbrev pub listIn : Kept → List ℕ
+listIn c = now (c .args .1 .0)
+
+pub layout-tied : (c : Kept) → Tiled (panelIn c) (c .result)
+layout-tied c = subst (Tiled (panelIn c)) (sym (c .promised)) (layout-tiles (panelIn c) (listIn c))

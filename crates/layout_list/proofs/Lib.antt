@@ -1,0 +1,2 @@
+-- `Lines` has the laws of the leaves' lines.
+pub mod Lines

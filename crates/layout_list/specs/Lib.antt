@@ -1,0 +1,2 @@
+-- The text of a layout.
+pub mod Text
