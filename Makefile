@@ -4,7 +4,7 @@
 # make bench      compares with plain C, and writes docs/BENCHMARKS.md
 # make layout     draws a layout's leaves as outlines; LIST="01 00" draws another list of boxes
 # make ghosting   simulates a season of trainees' mistakes, and writes docs/GHOSTING.md
-.PHONY: demo layout test tests build bench ghosting clean
+.PHONY: demo demo-finish layout test tests build bench ghosting clean
 
 SHELL = /bin/bash
 CFLAGS = -std=c99 -O2 -Wall -Wextra -pedantic
@@ -19,6 +19,14 @@ demo:
 	@set -o pipefail; rt check settings_list replay 2>&1 | tee target/demo.log | { grep --line-buffered '^rt: ' || true; } \
 	    || { cat target/demo.log; exit 1; }
 	@$(PYTHON) -m demo.board $(PANELS)
+	@$(if $(PANELS),,$(MAKE) --no-print-directory demo-finish)
+
+# The finish arch panels alone.
+demo-finish:
+	@mkdir -p target/demo
+	@rt staticlib start_board >target/demo.log 2>&1 || { cat target/demo.log; exit 1; }
+	@$(CC) $(CFLAGS) -Iinclude -o target/demo/finish_things demo/finish_things.c $(LIBRARY)
+	@$(PYTHON) -m demo.finish
 
 layout:
 	rt check layout_list
@@ -41,6 +49,12 @@ tests: build
 	@echo "== the C example"
 	$(CC) $(CFLAGS) -Iinclude -o $(OUT)/firmware examples/firmware.c $(LIBRARY)
 	$(OUT)/firmware | diff tests/calls/example.expected -
+	@echo "== the finish panels' two C calls against an independent implementation"
+	$(CC) $(CFLAGS) -Iinclude -o $(OUT)/finish tests/finish/compare.c tests/finish/reference.c $(LIBRARY)
+	$(OUT)/finish
+	@echo "== the C example of a finish panel"
+	$(CC) $(CFLAGS) -Iinclude -o $(OUT)/finish_example examples/finish.c $(LIBRARY)
+	$(OUT)/finish_example | diff tests/finish/example.expected -
 	@echo "== whole updates of the update loop against plain C"
 	$(PYTHON) -m bench.run --compare
 	@echo "== the listing program against an independent implementation"

@@ -1,7 +1,7 @@
 """Times the driver beside plain C in one run, prints the ratios and writes them to docs/BENCHMARKS.md.
 
 Run from the repository's root by `make bench`, which builds the libraries. `--compare` only checks that the driver and
-plain C put the same bytes out in a whole update of each panel.
+plain C put the same bytes out in a whole update of each panel, and give out the same for a finish panel.
 """
 import os
 import re
@@ -15,15 +15,16 @@ from simulator.panel import PANELS
 OUT = "target/bench"
 LIBRARIES = "target/staticlib"
 COMPILE = ["gcc", "-std=c99", "-O3", "-Wall", "-Wextra", "-pedantic", "-Iinclude"]
-LINE_ROUNDS, UPDATE_ROUNDS = 60, 100
+LINE_ROUNDS, UPDATE_ROUNDS, FINISH_ROUNDS = 60, 100, 60
 BUS_HZ = 12_000_000
 
 
 def build():
     os.makedirs(OUT, exist_ok=True)
-    for name in ("plain", "plain_store"):  # files of their own, so that the compiler does not see the calls it is timed by
+    for name in ("plain", "plain_store", "plain_finish"):  # files of their own, so that the compiler does not see the calls it is timed by
         subprocess.run(COMPILE + ["-c", f"bench/{name}.c", "-o", f"{OUT}/{name}.o"], check=True)
     subprocess.run(COMPILE + ["bench/line.c", f"{OUT}/plain.o", f"{LIBRARIES}/libstart_board.a", "-o", f"{OUT}/line"], check=True)
+    subprocess.run(COMPILE + ["bench/finish.c", f"{OUT}/plain_finish.o", f"{LIBRARIES}/libstart_board.a", "-o", f"{OUT}/finish"], check=True)
     subprocess.run(COMPILE + ["bench/update.c", f"{OUT}/plain.o", f"{OUT}/plain_store.o", f"{LIBRARIES}/libupdate_loop.a",
                               "-o", f"{OUT}/update"], check=True)
     for panel in PANELS:
@@ -47,6 +48,8 @@ def compare():
     for panel in PANELS:
         found = numbers([f"{OUT}/update", settings_path(panel), "1"])
         print(f"panel {panel.name}: the driver and plain C put the same {found['bytes']:,.0f} bytes out and leave the same memory")
+    numbers([f"{OUT}/finish", "0"])
+    print("finish panel: the driver and plain C give out the same 2,073 things")
 
 
 def profile(panel):
@@ -81,6 +84,21 @@ def tables(panel):
     return rows, line, store
 
 
+def finish_rows():
+    """A call for a finish panel, early and late in an update, and the write of a picture."""
+    found = numbers([f"{OUT}/finish", str(FINISH_ROUNDS)])
+
+    def timed(work, name, unit, scale):
+        return row(work, found[f"{name}_library"], found[f"{name}_plain"], unit, scale)
+
+    return [
+        timed("the first write, at count 0", "first", "ns", 1),
+        timed("a write of the last stage, at count 2,062", "soft", "ns", 1),
+        timed("the last write, at count 2,072", "last", "ns", 1),
+        timed("the picture's write, 48,001 bytes", "picture", "us", 1e3),
+    ]
+
+
 def wire_rows(panel, line, store):
     """The time of the processor over the time that the same bytes take on the bus."""
     lines = 4 * panel.frames * panel.height
@@ -110,6 +128,8 @@ def document(panel):
         "WRITES": str(settings.writes(settings.read(panel))),
         "LINE_ROUNDS": str(LINE_ROUNDS), "UPDATE_ROUNDS": str(UPDATE_ROUNDS),
         "RATIOS": "\n".join(rows),
+        "FINISH_ROUNDS": str(FINISH_ROUNDS),
+        "FINISH": "\n".join(finish_rows()),
         "WIRE": "\n".join(wire_rows(panel, line, store)),
         "PROFILE": "\n".join(f"| `{name}` | {count:,} | {share} % |" for name, count, share in profile(panel))
                    or "| valgrind is not installed here | | |",

@@ -4,13 +4,13 @@ use mathlib.Core.Path.{_≡_, refl, sym, ap, _∙_}
 use mathlib.Core.Bool.{Bool, true, false}
 use mathlib.Core.List.{List, [], _∷_, _++_, map, append-assoc, append-nil}
 use Prim.Native.Nat.{ℕ, zero, suc, _+_, _≤_, _<_}
-use native.Mathlib.Nat.{not-suc-le-zero, le-of-suc-le-suc}
 use native.Mathlib.Numerals.{add-one}
 use native.Mathlib.Omega.{arith}
 use borrow.Author.Tests.{eqb-true, leb-true}
 use lib.Dec.{eqb, leb}
 use lib.ListN.{length, getD, take, length-map}
 use lib.Seq.{take-suc}
+use Rattle.lists.proofs.Elements.{at-map}
 use Rattle.lists.specs.Rules.{every}
 use Rattle.lists.proofs.Parts.{part-next}
 use Rattle.lists.proofs.Rules.{and-left, and-right, broken, below-all}
@@ -30,12 +30,6 @@ abbrev pub fieldAt : (b h s i : ℕ) → Field
 fieldAt b h s i = getD (headerFields b h s) i noField
 
 -- ---- tables
-
--- the value of an entry is the entry of the table of values
-pub at-map : {A B : Type 0} (f : A → B) (e : B) (l : List A) (k : ℕ) (d : A) → k < length l → f (getD l k d) ≡ getD (map f l) k e
-at-map f e [] k d h = absurd (not-suc-le-zero h)
-at-map f e (x ∷ l) zero d h = refl
-at-map f e (x ∷ l) (suc k) d h = at-map f e l k d (le-of-suc-le-suc h)
 
 -- the field of an entry of the code's table is the field at its place
 pub entry-at : (b h s : ℕ) (table : List Entry) → map (fieldOf b h s) table ≡ headerFields b h s

@@ -6,9 +6,9 @@ use mathlib.Core.List.{List, [], _∷_}
 use Prim.Native.Nat.{ℕ}
 use borrow.Fn.World as World
 use borrow.Fn.Kinds as FnKinds
-use contract.Lifetimes as Lifetimes
 use denote.Triple.Clauses as Clauses
 use denote.Ref.{now}
+use Rattle.lists.proofs.Calls as made
 use Rattle.settings.specs.Settings.{rowBytesIn, rowsIn}
 use Rattle.run.specs.Due.{runFrames}
 use Rattle.board.specs.History as H
@@ -43,47 +43,39 @@ use Rattle.board.proofs.State.poll.Reads as poll-reads
 
 -- ---- the values of a call: its arguments, its result and its parameters at exit, for which its contract holds
 
-pub record Kept (n : ℕ) (Args Result Exit : Lifetimes.Lfts n → Type 0)
-    (Learnt : (l : Lifetimes.Lfts n) → Args l → Result l → Exit l → Type 0) : Type 0 where
-  pub lifetimes : Lifetimes.Lfts n
-  pub args : Args lifetimes
-  pub result : Result lifetimes
-  pub exit : Exit lifetimes
-  pub promised : Learnt lifetimes args result exit
-
 abbrev pub Open : Type 0
 Open =
-    Kept 2 (World.ArgsD open-fn.signature) (World.ResD open-fn.signature)
+    made.Call 2 (World.ArgsD open-fn.signature) (World.ResD open-fn.signature)
     (Clauses.AtExit (FnKinds.endedOf 2 open-kinds.ps open-kinds.r)) open-reads.Learnt
 
 abbrev pub UploadRegion : Type 0
 UploadRegion =
-    Kept 2 (World.ArgsD region-fn.signature) (World.ResD region-fn.signature)
+    made.Call 2 (World.ArgsD region-fn.signature) (World.ResD region-fn.signature)
     (Clauses.AtExit (FnKinds.endedOf 2 region-kinds.ps region-kinds.r)) region-reads.Learnt
 
 abbrev pub UploadBitmap : Type 0
 UploadBitmap =
-    Kept 2 (World.ArgsD bitmap-fn.signature) (World.ResD bitmap-fn.signature)
+    made.Call 2 (World.ArgsD bitmap-fn.signature) (World.ResD bitmap-fn.signature)
     (Clauses.AtExit (FnKinds.endedOf 2 bitmap-kinds.ps bitmap-kinds.r)) bitmap-reads.Learnt
 
 abbrev pub Start : Type 0
 Start =
-    Kept 1 (World.ArgsD start-fn.signature) (World.ResD start-fn.signature)
+    made.Call 1 (World.ArgsD start-fn.signature) (World.ResD start-fn.signature)
     (Clauses.AtExit (FnKinds.endedOf 1 start-kinds.ps start-kinds.r)) start-reads.Learnt
 
 abbrev pub Abandon : Type 0
 Abandon =
-    Kept 1 (World.ArgsD abandon-fn.signature) (World.ResD abandon-fn.signature)
+    made.Call 1 (World.ArgsD abandon-fn.signature) (World.ResD abandon-fn.signature)
     (Clauses.AtExit (FnKinds.endedOf 1 abandon-kinds.ps abandon-kinds.r)) abandon-reads.Learnt
 
 abbrev pub Poll : Type 0
 Poll =
-    Kept 2 (World.ArgsD poll-fn.signature) (World.ResD poll-fn.signature)
+    made.Call 2 (World.ArgsD poll-fn.signature) (World.ResD poll-fn.signature)
     (Clauses.AtExit (FnKinds.endedOf 2 poll-kinds.ps poll-kinds.r)) poll-reads.Learnt
 
 abbrev pub WriteBitmap : Type 0
 WriteBitmap =
-    Kept 2 (World.ArgsD write-fn.signature) (World.ResD write-fn.signature)
+    made.Call 2 (World.ArgsD write-fn.signature) (World.ResD write-fn.signature)
     (Clauses.AtExit (FnKinds.endedOf 2 write-kinds.ps write-kinds.r)) write-reads.Learnt
 
 -- ---- the parts of each call: the places of its arguments are named here and nowhere else

@@ -6,9 +6,9 @@ use mathlib.Core.List.{List}
 use Prim.Native.Nat.{ℕ}
 use borrow.Fn.World as World
 use borrow.Fn.Kinds as FnKinds
-use contract.Lifetimes as Lifetimes
 use denote.Triple.Clauses as Clauses
 use denote.Ref.{now}
+use Rattle.lists.proofs.Calls as made
 use Rattle.layout.specs.Tiling.{Tiled}
 use Rattle.layout.proofs.Tiling.{layout-tiles}
 use Rattle.layout.proofs.layout as layout-fn
@@ -16,12 +16,10 @@ use Rattle.layout.proofs.layout.Kinds as layout-kinds
 use Rattle.layout.proofs.layout.Reads as layout-reads
 
 -- a call: its arguments, its result and its parameters at exit, for which the contract holds
-pub record Kept : Type 0 where
-  pub lifetimes : Lifetimes.Lfts 1
-  pub args : World.ArgsD layout-fn.signature lifetimes
-  pub result : World.ResD layout-fn.signature lifetimes
-  pub exit : Clauses.AtExit (FnKinds.endedOf 1 layout-kinds.ps layout-kinds.r) lifetimes
-  pub promised : layout-reads.Learnt lifetimes args result exit
+abbrev pub Kept : Type 0
+Kept =
+    made.Call 1 (World.ArgsD layout-fn.signature) (World.ResD layout-fn.signature)
+    (Clauses.AtExit (FnKinds.endedOf 1 layout-kinds.ps layout-kinds.r)) layout-reads.Learnt
 
 -- the places of its arguments are named here and nowhere else
 abbrev pub panelIn : Kept → ℕ

@@ -1,9 +1,11 @@
-// The calls for the clock's own firmware, which is C: include/start_board.h declares them. Each promises what the function
-// that it calls does.
+// The calls for firmware in C: include/start_board.h declares them. Each promises what the function that it calls does.
 ghost use mathlib.Core.Path.{_≡_};
 ghost use Rattle.wire.specs.Builder.{buildLine};
 ghost use Rattle.settings.specs.Settings.{checkSettings};
 ghost use Rattle.bitmap.specs.Bitmap.{checkBitmap};
+
+mod finish;
+mod words;
 
 // The line of a picture row in a stage: 0; or 14, an argument out of range; or 11, the output too short.
 #[no_mangle]

@@ -1,0 +1,71 @@
+-- A whole update once more, over calls that keep the contracts as the checker makes them from the source. A contract that is weakened in
+-- src/ is refused here, even where every function is still proved.
+-- Assumes nothing.
+use mathlib.Core.Path.{_≡_}
+use mathlib.Core.List.{List}
+use Prim.Native.Nat.{ℕ, _≤_}
+use borrow.Fn.World as World
+use borrow.Fn.Kinds as FnKinds
+use denote.Triple.Clauses as Clauses
+use denote.Ref.{now}
+use lib.IntN.{ℤ}
+use lib.ListN.{length}
+use Rattle.lists.proofs.Calls.{Call}
+use Rattle.finish_panel.specs.Update.{normalGood, fastGood, normalThings, fastThings, Accepted, roomForAll, InOrder}
+use Rattle.finish_panel.proofs.Whole.{normal-in-order, fast-in-order}
+use Rattle.finish_panel.proofs.normal_update as normal-fn
+use Rattle.finish_panel.proofs.normal_update.Kinds as normal-kinds
+use Rattle.finish_panel.proofs.normal_update.Reads as normal-reads
+use Rattle.finish_panel.proofs.fast_update as fast-fn
+use Rattle.finish_panel.proofs.fast_update.Kinds as fast-kinds
+use Rattle.finish_panel.proofs.fast_update.Reads as fast-reads
+
+-- ---- normal mode
+
+abbrev pub NormalUpdate : Type 0
+NormalUpdate =
+    Call 3 (World.ArgsD normal-fn.signature) (World.ResD normal-fn.signature)
+    (Clauses.AtExit (FnKinds.endedOf 3 normal-kinds.ps normal-kinds.r)) normal-reads.Learnt
+
+-- a call at a count of an update, with room for every write
+pub record AsksNormal (otp : List ℕ) (temperature : ℤ) (new : List ℕ) (k : ℕ) (c : NormalUpdate) : Type 0 where
+  pub otp-is : now (c .args .0) ≡ otp
+  pub temperature-is : c .args .1 .0 ≡ temperature
+  pub new-is : now (c .args .1 .1 .0) ≡ new
+  pub count-is : c .args .1 .1 .1 .0 ≡ k
+  pub room : roomForAll ≤ length (now (c .args .1 .1 .1 .1 .0))
+
+pub normal-tied : (otp : List ℕ) (temperature : ℤ) (new : List ℕ) → Accepted otp (normalGood temperature) (length new) (length new)
+    → (calls : ℕ → NormalUpdate)
+    → ((k : ℕ) → k ≤ length (normalThings otp temperature new) → AsksNormal otp temperature new k (calls k))
+    → InOrder (normalThings otp temperature new) (λ k. calls k .result) (λ k. now (calls k .exit .1 .1 .1 .1 .0))
+normal-tied otp temperature new a calls asks =
+    normal-in-order otp temperature new (λ k. now (calls k .args .1 .1 .1 .1 .0)) (λ k. calls k .result)
+    (λ k. now (calls k .exit .1 .1 .1 .1 .0)) a
+    (λ k h. asks k h .room)
+    (λ k h. rw (asks k h .otp-is, asks k h .temperature-is, asks k h .new-is, asks k h .count-is) at (calls k .promised))
+
+-- ---- fast mode
+
+abbrev pub FastUpdate : Type 0
+FastUpdate =
+    Call 4 (World.ArgsD fast-fn.signature) (World.ResD fast-fn.signature)
+    (Clauses.AtExit (FnKinds.endedOf 4 fast-kinds.ps fast-kinds.r)) fast-reads.Learnt
+
+pub record AsksFast (otp : List ℕ) (temperature : ℤ) (new shown : List ℕ) (k : ℕ) (c : FastUpdate) : Type 0 where
+  pub otp-is : now (c .args .0) ≡ otp
+  pub temperature-is : c .args .1 .0 ≡ temperature
+  pub new-is : now (c .args .1 .1 .0) ≡ new
+  pub shown-is : now (c .args .1 .1 .1 .0) ≡ shown
+  pub count-is : c .args .1 .1 .1 .1 .0 ≡ k
+  pub room : roomForAll ≤ length (now (c .args .1 .1 .1 .1 .1 .0))
+
+pub fast-tied : (otp : List ℕ) (temperature : ℤ) (new shown : List ℕ) → Accepted otp (fastGood temperature) (length new) (length shown)
+    → (calls : ℕ → FastUpdate)
+    → ((k : ℕ) → k ≤ length (fastThings otp temperature new shown) → AsksFast otp temperature new shown k (calls k))
+    → InOrder (fastThings otp temperature new shown) (λ k. calls k .result) (λ k. now (calls k .exit .1 .1 .1 .1 .1 .0))
+fast-tied otp temperature new shown a calls asks =
+    fast-in-order otp temperature new (λ k. now (calls k .args .1 .1 .1 .1 .1 .0)) (λ k. calls k .result)
+    (λ k. now (calls k .exit .1 .1 .1 .1 .1 .0)) shown a
+    (λ k h. asks k h .room)
+    (λ k h. rw (asks k h .otp-is, asks k h .temperature-is, asks k h .new-is, asks k h .shown-is, asks k h .count-is) at (calls k .promised))

@@ -1,0 +1,153 @@
+-- What each kind of data stands for.
+-- Assumes nothing.
+use borrow.Author.Tests.{leb-true}
+use borrow.Author.Needs.{needs}
+use Rattle.finish_panel.proofs.give_data.Statement.{statement}
+use Rattle.finish_panel.proofs.give_data.Tie as tie
+
+enum-known-bytes : tie.Need-enum-known-bytes
+enum-known-bytes c = search needs
+
+slice-aggregate-give-write : tie.Need-slice-aggregate-give-write
+slice-aggregate-give-write c = search needs
+
+give-write-requires : tie.Need-give-write-requires
+give-write-requires c κs = search needs
+
+enum-known-bytes-2 : tie.Need-enum-known-bytes-2
+enum-known-bytes-2 c = search needs
+
+slice-aggregate-give-write-2 : tie.Need-slice-aggregate-give-write-2
+slice-aggregate-give-write-2 c = search needs
+
+give-write-requires-2 : tie.Need-give-write-requires-2
+give-write-requires-2 c κs = search needs
+
+enum-known-bytes-3 : tie.Need-enum-known-bytes-3
+enum-known-bytes-3 c = search needs
+
+cast-give-otp : tie.Need-cast-give-otp
+cast-give-otp c = search needs
+
+cast-give-otp-2 : tie.Need-cast-give-otp-2
+cast-give-otp-2 c = search needs
+
+give-otp-requires : tie.Need-give-otp-requires
+give-otp-requires c κs =
+    let pre = c .before .before .before .before .before .before .before .before .pre in
+    (pre .0, leb-true _ _ (rw (c .before .before .bytes3 .given .1) at (pre .3)))
+
+enum-told : tie.Need-enum-told
+enum-told c = search needs
+
+shared-slice-read-t30 : tie.Need-shared-slice-read-t30
+shared-slice-read-t30 c = search needs
+
+slice-aggregate-give-write-3 : tie.Need-slice-aggregate-give-write-3
+slice-aggregate-give-write-3 c = search needs
+
+give-write-requires-3 : tie.Need-give-write-requires-3
+give-write-requires-3 c κs = search needs
+
+enum-told-2 : tie.Need-enum-told-2
+enum-told-2 c = search needs
+
+slice-aggregate-give-write-4 : tie.Need-slice-aggregate-give-write-4
+slice-aggregate-give-write-4 c = search needs
+
+give-write-requires-4 : tie.Need-give-write-requires-4
+give-write-requires-4 c κs = search needs
+
+enum-told-3 : tie.Need-enum-told-3
+enum-told-3 c = search needs
+
+give-write-requires-5 : tie.Need-give-write-requires-5
+give-write-requires-5 c κs = search needs
+
+enum-told-4 : tie.Need-enum-told-4
+enum-told-4 c = search needs
+
+give-second-requires : tie.Need-give-second-requires
+give-second-requires c κs = search needs
+
+same-length : tie.Need-same-length
+same-length c = search needs
+
+returns : tie.Need-returns
+returns c = rw (c .before .before .before .before .before .before .bytes .given .1) (c .before .before .give-write .ensures)
+
+same-length-2 : tie.Need-same-length-2
+same-length-2 c = search needs
+
+returns-2 : tie.Need-returns-2
+returns-2 c = rw (c .before .before .before .before .before .before .bytes2 .given .1) (c .before .before .give-write2 .ensures)
+
+same-length-3 : tie.Need-same-length-3
+same-length-3 c = search needs
+
+returns-3 : tie.Need-returns-3
+returns-3 c = rw (c .before .before .before .before .before .bytes3 .given .1) (c .before .before .give-otp .ensures)
+
+same-length-4 : tie.Need-same-length-4
+same-length-4 c = search needs
+
+returns-4 : tie.Need-returns-4
+returns-4 c = rw (c .before .before .before .before .before .before .enum-told .given .1) (c .before .before .give-write3 .ensures)
+
+same-length-5 : tie.Need-same-length-5
+same-length-5 c = search needs
+
+returns-5 : tie.Need-returns-5
+returns-5 c = rw (c .before .before .before .before .before .enum-told2 .given .1) (c .before .before .give-write4 .ensures)
+
+same-length-6 : tie.Need-same-length-6
+same-length-6 c = search needs
+
+returns-6 : tie.Need-returns-6
+returns-6 c = rw (c .before .before .before .before .enum-told3 .given .1) (c .before .before .give-write5 .ensures)
+
+same-length-7 : tie.Need-same-length-7
+same-length-7 c = search needs
+
+returns-7 : tie.Need-returns-7
+returns-7 c = rw (c .before .before .before .before .enum-told4 .given .1) (c .before .before .give-second .ensures)
+
+pub give-data-spec : {M : Type 1} → statement M
+give-data-spec =
+    tie.close
+    (tie.spec
+    enum-known-bytes
+    slice-aggregate-give-write
+    give-write-requires
+    enum-known-bytes-2
+    slice-aggregate-give-write-2
+    give-write-requires-2
+    enum-known-bytes-3
+    cast-give-otp
+    cast-give-otp-2
+    give-otp-requires
+    enum-told
+    shared-slice-read-t30
+    slice-aggregate-give-write-3
+    give-write-requires-3
+    enum-told-2
+    slice-aggregate-give-write-4
+    give-write-requires-4
+    enum-told-3
+    give-write-requires-5
+    enum-told-4
+    give-second-requires
+    same-length
+    returns
+    same-length-2
+    returns-2
+    same-length-3
+    returns-3
+    same-length-4
+    returns-4
+    same-length-5
+    returns-5
+    same-length-6
+    returns-6
+    same-length-7
+    returns-7)
