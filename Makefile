@@ -11,6 +11,8 @@ CFLAGS = -std=c99 -O2 -Wall -Wextra -pedantic
 LIBRARY = target/staticlib/libstart_board.a
 OUT = target/tests
 PYTHON = python3 -B
+# Checks and edits are started in batches, and a batch waits for its slowest: four at a time keep two cores busy.
+export RT_JOBS ?= 4
 
 demo:
 	@$(PYTHON) -m demo.board --only-arguments $(PANELS)
@@ -37,9 +39,9 @@ test: tests
 
 # What the tests run: the static libraries and the programs. Only proved crates are built.
 build:
+	rt check start_board update_loop settings_list bitmap_normal layout_list replay
 	rt staticlib start_board
 	rt staticlib update_loop
-	rt check settings_list bitmap_normal layout_list replay
 
 tests: build
 	@mkdir -p $(OUT)
