@@ -1,8 +1,8 @@
 """Every public call on the store has a place in demand 3.
 
 Lists the public functions of crate board that take a state, in all files and folders of its src/, and fails where one has no
-constructor among the calls of the statement (`Call`) or among the steps of a chain (`Step`), or where a constructor has no such
-function. Before that the reader of sources is tried on a small crate of its own.
+constructor among the calls of the statement (`Call`) or among the steps of a chain (`Step`), or no line that says that it asks nothing
+(`AskNothing`), or where a constructor has no such function. Before that the reader of sources is tried on a small crate of its own.
 """
 import os
 import re
@@ -167,6 +167,13 @@ def constructors(name):
     return found[0]
 
 
+def asks_nothing(name):
+    """Whether proofs/Tied.antt says of a method of State that it asks nothing."""
+    tied = read(os.path.join(BOARD, "proofs", "Tied.antt"))
+    alias = re.search(r"\.proofs\.State\.%s as (\w+)-fn\n" % name, tied)
+    return bool(alias) and "%s-reads.Asked\n" % alias[1] in tied
+
+
 def camel(name):
     head, *rest = name.split("_")
     return head + "".join(word.capitalize() for word in rest)
@@ -183,8 +190,12 @@ def main():
         for name in sorted(have - set(wanted)):
             print("%s of %s has %s, and no public call has that name" % (data, path, name))
         failed += len(set(wanted) ^ have)
+    for name in sorted(wanted.values()):
+        if not asks_nothing(name):
+            print("board::%s has no line in AskNothing of proofs/Tied.antt" % name)
+            failed += 1
     print("public calls on the store: %s" % ", ".join(sorted(wanted.values())))
-    print("%d passed, %d failed" % (2 * len(wanted) - failed, failed))
+    print("%d passed, %d failed" % (3 * len(wanted) - failed, failed))
     sys.exit(1 if failed or not wanted else 0)
 
 

@@ -12,7 +12,7 @@ use lib.IntN.{ℤ, pos, negsuc, negℤ, _+ℤ_, _*ℤ_, +ℤ-assoc, +ℤ-idl, +�
 use Rattle.panel.specs.Codes.{whereWhite, whereBlack, codeBy, codeOf}
 use Rattle.wire.specs.Reading.{pushOf}
 use Rattle.balance.specs.Sums.{Within, restSum, pictureOfStage}
-use Rattle.balance.specs.Excess.{restExcess, excessWhereWhite, excessWhereBlack, blackExcess, stagePush, netPush}
+use Rattle.balance.proofs.Ahead.{restExcess, excessWhereWhite, excessWhereBlack, blackExcess, stagePush, netPush}
 
 -- ---- whole numbers
 

@@ -7,8 +7,8 @@ use Prim.Native.Nat.{ℕ, _*_, _≤_, _<_}
 use lib.IntN.{ℤ, pos, negℤ, _+ℤ_, _*ℤ_, +ℤ-idl, +ℤ-idr, +ℤ-assoc}
 use Rattle.wire.specs.Reading.{pushed}
 use Rattle.balance.specs.Sums.{sumOf, Within, restSum}
-use Rattle.balance.specs.Moves.{Dots, Place, line, allOut, View, resting, updating, abandoned, Move, nothing, start, draw, done, abandon, Moves, none, more}
-use Rattle.balance.specs.Excess.{restExcess, excessAt, excessOf, netPush}
+use Rattle.balance.proofs.Stores.{Dots, Place, line, allOut, View, resting, updating, abandoned, Move, nothing, start, draw, done, abandon, Moves, none, more}
+use Rattle.balance.proofs.Ahead.{restExcess, excessAt, excessOf, netPush}
 use Rattle.balance.proofs.Excess.{minus-within, rest-sum, rest-le, rest-net}
 use Rattle.balance.proofs.Places.{InRun, at-line, at-le, at-first, first-excess, line-push, after-line}
 

@@ -13,8 +13,8 @@ use lib.IntN.{pos, negℤ, _+ℤ_, +ℤ-idr}
 use Rattle.panel.specs.Codes.{codeOf}
 use Rattle.wire.specs.Reading.{pushOf}
 use Rattle.balance.specs.Sums.{pictureOfStage}
-use Rattle.balance.specs.Moves.{Dots, Place, line, allOut, nextPlace}
-use Rattle.balance.specs.Excess.{restExcess, blackExcess, framesHad, excessAt}
+use Rattle.balance.proofs.Stores.{Dots, Place, line, allOut, nextPlace}
+use Rattle.balance.proofs.Ahead.{restExcess, blackExcess, framesHad, excessAt}
 use Rattle.balance.proofs.Excess.{rest-le, excess-first, excess-last, excess-turn, excess-frame, excess-le}
 
 -- ---- the place after a line

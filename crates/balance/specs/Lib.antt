@@ -1,5 +1,2 @@
--- What lines push a dot over a run, and over any list of what a store can do.
+-- What lines push a dot, summed over all that were handed out, and what a dot's sum is at rest.
 pub mod Sums
-pub mod Moves
--- By how many pushes to black a dot is ahead at each moment.
-pub mod Excess

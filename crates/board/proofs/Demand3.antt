@@ -14,8 +14,8 @@ use Rattle.panel.proofs.Panels.{size-of}
 use Rattle.settings.proofs.Accepted.{good-panel}
 use Rattle.picture.specs.Slots.{slotPicture}
 use Rattle.balance.specs.Sums.{sumOf, restSum}
-use Rattle.balance.specs.Moves.{Dots, View, Moves}
-use Rattle.balance.specs.Moves as moves
+use Rattle.balance.proofs.Stores.{Dots, View, Moves}
+use Rattle.balance.proofs.Stores as moves
 use Rattle.balance.proofs.Moves.{moves-within, moves-rest}
 use Rattle.run.specs.Due.{runFrames}
 use Rattle.run.specs.declared.Phase.{Phase}

@@ -24,7 +24,7 @@ use Rattle.settings.specs.Steps.{fromWrite}
 use Rattle.settings.proofs.Steps.{step-cases}
 use Rattle.picture.specs.Slots.{slotPicture, pictureRow}
 use Rattle.balance.specs.Sums.{pictureOfStage}
-use Rattle.balance.specs.Moves.{Dots, Silent, Drives}
+use Rattle.balance.proofs.Stores.{Dots, Silent, Drives}
 use Rattle.poll.specs.HandOut.{stepBytes}
 use Rattle.board.proofs.Views.{silent-none}
 

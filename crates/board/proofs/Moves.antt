@@ -15,8 +15,8 @@ use Rattle.settings.proofs.Accepted.{good-panel}
 use Rattle.picture.specs.Slots.{slotPicture, withPicture}
 use Rattle.picture.proofs.Slots.{others-kept, copied}
 use Rattle.balance.specs.Sums.{pictureOfStage}
-use Rattle.balance.specs.Moves.{Dots, Place, line, allOut, nextPlace, View, Move}
-use Rattle.balance.specs.Moves as moves
+use Rattle.balance.proofs.Stores.{Dots, Place, line, allOut, nextPlace, View, Move}
+use Rattle.balance.proofs.Stores as moves
 use Rattle.run.specs.Due.{runFrames, dueOf}
 use Rattle.run.specs.Runs.{begun, waited, moved}
 use Rattle.run.specs.declared.Tick.{Tick}
@@ -165,9 +165,9 @@ not-done answer.Done e = absurd (false≢true (sym e))
 
 refused-seen : (b h : ℕ) (memory : List ℕ) (seen : Seen) (part : Part) (given : Given) → isAccepted given ≡ false
     → afterCall b h memory seen part given ≡ seen
-refused-seen b h memory seen (starts slot) given e = rw e
-refused-seen b h memory seen polls (number n) e = refl
-refused-seen b h memory seen polls (answered given) e = rw (not-done given e)
+refused-seen b h memory seen (starts slot tick) given e = rw e
+refused-seen b h memory seen (polls tick) (number n) e = refl
+refused-seen b h memory seen (polls tick) (answered given) e = rw (not-done given e)
 refused-seen b h memory seen abandons given e = rw e
 refused-seen b h memory seen noPart given e = refl
 

@@ -11,6 +11,7 @@ use denote.Ref.{now}
 use Rattle.lists.proofs.Calls as made
 use Rattle.settings.specs.Settings.{rowBytesIn, rowsIn}
 use Rattle.run.specs.Due.{runFrames}
+use Rattle.run.specs.declared.Tick.{Tick}
 use Rattle.board.specs.History as H
 use Rattle.board.specs.History.{Call, Event, Called, callOn, ofReply, ofPoll, eventsOf, memoryAfter}
 use Rattle.board.specs.Calls.{polling}
@@ -80,6 +81,22 @@ WriteBitmap =
 
 -- ---- the parts of each call: the places of its arguments are named here and nowhere else
 
+-- the slot and the tick reading of a start, and the slot and the file of a bitmap upload and of the writer
+abbrev pub startedSlot : Start → ℕ
+startedSlot c = c .args .1 .1 .0
+
+abbrev pub startedTick : Start → Tick
+startedTick c = c .args .1 .1 .1 .0
+
+abbrev pub uploadedSlot : UploadBitmap → ℕ
+uploadedSlot c = c .args .1 .1 .0
+
+abbrev pub uploadedFile : UploadBitmap → List ℕ
+uploadedFile c = now (c .args .1 .1 .1 .0)
+
+abbrev pub writtenSlot : WriteBitmap → ℕ
+writtenSlot c = c .args .1 .1 .0
+
 -- a call that answers a number: its memory at entry, its reply, and the memory and the output at exit
 abbrev replied : State → (before : List ℕ) → Call → Reply → (after out : List ℕ) → Parts
 replied state before call r after out =
@@ -94,20 +111,19 @@ regionParts c =
 
 abbrev pub bitmapParts : UploadBitmap → Parts
 bitmapParts c =
-    replied (c .args .0) (now (c .args .1 .0)) (H.uploadBitmap (c .args .1 .1 .0) (now (c .args .1 .1 .1 .0)))
-    (c .result) (now (c .exit .1 .0)) []
+    replied (c .args .0) (now (c .args .1 .0)) (H.uploadBitmap (uploadedSlot c) (uploadedFile c)) (c .result) (now (c .exit .1 .0)) []
 
 abbrev pub startParts : Start → Parts
 startParts c =
-    replied (c .args .0) (now (c .args .1 .0)) (H.start (c .args .1 .1 .0) (c .args .1 .1 .1 .0)) (c .result) (now (c .args .1 .0)) []
+    replied (c .args .0) (now (c .args .1 .0)) (H.start (startedSlot c) (startedTick c)) (c .result) (now (c .args .1 .0)) []
 
 abbrev pub abandonParts : Abandon → Parts
 abandonParts c = replied (c .args .0) (now (c .args .1 .0)) H.abandon (c .result) (now (c .args .1 .0)) []
 
 abbrev pub writeParts : WriteBitmap → Parts
 writeParts c =
-    replied (c .args .0) (now (c .args .1 .0)) (H.writeBitmap (c .args .1 .1 .0) (now (c .args .1 .1 .1 .0)))
-    (c .result) (now (c .args .1 .0)) (now (c .exit .1 .1 .1 .0))
+    replied (c .args .0) (now (c .args .1 .0)) (H.writeBitmap (writtenSlot c) (now (c .args .1 .1 .1 .0))) (c .result)
+    (now (c .args .1 .0)) (now (c .exit .1 .1 .1 .0))
 
 abbrev pub pollParts : Poll → Parts
 pollParts c =
@@ -130,8 +146,31 @@ openedSlots o = o .args .1 .0
 abbrev pub openedMemory : Open → List ℕ
 openedMemory o = now (o .exit .1 .1 .0)
 
-abbrev lentMemory : Open → List ℕ
+abbrev pub lentMemory : Open → List ℕ
 lentMemory o = now (o .args .1 .1 .0)
+
+-- ---- no call asks anything of what it is given: a `requires` that is added to one is refused here
+
+pub record AskNothing : Type 0 where
+  pub opening : made.AsksNothing 2 (World.ArgsD open-fn.signature) open-reads.Asked
+  pub region-upload : made.AsksNothing 2 (World.ArgsD region-fn.signature) region-reads.Asked
+  pub bitmap-upload : made.AsksNothing 2 (World.ArgsD bitmap-fn.signature) bitmap-reads.Asked
+  pub starting : made.AsksNothing 1 (World.ArgsD start-fn.signature) start-reads.Asked
+  pub abandoning : made.AsksNothing 1 (World.ArgsD abandon-fn.signature) abandon-reads.Asked
+  pub polling : made.AsksNothing 2 (World.ArgsD poll-fn.signature) poll-reads.Asked
+  pub writing : made.AsksNothing 2 (World.ArgsD write-fn.signature) write-reads.Asked
+
+pub asks-nothing : AskNothing
+asks-nothing =
+    record {
+      opening = λ l args. tt;
+      region-upload = λ l args. tt;
+      bitmap-upload = λ l args. tt;
+      starting = λ l args. tt;
+      abandoning = λ l args. tt;
+      polling = λ l args. tt;
+      writing = λ l args. tt;
+    }
 
 -- ---- one call that keeps its contract
 

@@ -11,8 +11,8 @@ use Rattle.panel.specs.Dots.{dot}
 use Rattle.settings.specs.Settings.{rowBytesIn, rowsIn}
 use Rattle.picture.specs.Slots.{slotPicture}
 use Rattle.wire.specs.Reading.{pushed}
-use Rattle.balance.specs.Moves.{Dots, Place, line, allOut, nextPlace, View, Silent, Move}
-use Rattle.balance.specs.Moves as moves
+use Rattle.balance.proofs.Stores.{Dots, Place, line, allOut, nextPlace, View, Silent, Move}
+use Rattle.balance.proofs.Stores as moves
 use Rattle.run.specs.Due.{runFrames}
 use Rattle.run.specs.Place.{nextPosition}
 use Rattle.run.specs.declared.Position.{Position}

@@ -17,6 +17,7 @@ use Rattle.bitmap.specs.Header.{fileLength}
 use Rattle.bitmap.specs.Bitmap.{bitmapGood, readPicture, writtenFile}
 use Rattle.run.specs.Runs.{begun}
 use Rattle.run.specs.declared.Tick.{Tick}
+use Rattle.poll.specs.Answers.{answerNumber, answerMs, putOut}
 use Rattle.poll.specs.HandOut.{Outcome, outcome}
 use Rattle.poll.specs.Poll.{pollRun}
 use Rattle.poll.specs.declared.Answer.{Answer}
@@ -132,9 +133,28 @@ abandoning state memoryLength =
 
 -- ---- poll: 13, 1, 9, then 11, 10 of the run
 
--- the answer, the state, the memory and the output
-pub data Polling : Type 0 where
-  polling : (answer : Answer) (state : State) (memory out : List ℕ) → Polling
+-- what a poll gives back and leaves: its answer, with the number, the ms still to go and the bytes put out that the answer stands for;
+-- the state, the memory and the output
+pub record Polling : Type 0 where
+  pub answer : Answer
+  pub number : ℕ
+  pub ms : ℕ
+  pub put : List ℕ
+  pub state : State
+  pub memory : List ℕ
+  pub out : List ℕ
+
+abbrev pub polling : (answer : Answer) (state : State) (memory out : List ℕ) → Polling
+polling answer state memory out =
+    record {
+      answer = answer;
+      number = answerNumber answer;
+      ms = answerMs answer;
+      put = putOut answer out;
+      state = state;
+      memory = memory;
+      out = out;
+    }
 
 abbrev pub inState : State → Outcome → Polling
 inState state (outcome answer phase memory out) = polling answer (withPhase state phase) memory out

@@ -7,10 +7,10 @@ use lib.Dec.{eqb}
 use lib.ListN.{length}
 use Rattle.picture.specs.Slots.{slotPicture}
 use Rattle.run.specs.declared.Tick.{Tick}
-use Rattle.poll.specs.Answers.{answerNumber, putOut}
+use Rattle.poll.specs.Answers.{answerNumber}
 use Rattle.poll.specs.declared.Answer.{Answer}
 use Rattle.poll.specs.declared.Answer.the-variants.{Refused, Write, Line, Wait, Done}
-use Rattle.board.specs.Calls.{regionUpload, bitmapUpload, starting, abandoning, Polling, polling, polled, bitmapWrite}
+use Rattle.board.specs.Calls.{regionUpload, bitmapUpload, starting, abandoning, Polling, polled, bitmapWrite}
 use Rattle.board.specs.declared.State.{State}
 use Rattle.board.specs.declared.Reply.{Reply}
 
@@ -25,16 +25,16 @@ pub data Call : Type 0 where
 
 -- what a call is to a run: it starts one, polls it, abandons it, or has no part in it
 pub data Part : Type 0 where
-  starts : (slot : ℕ) → Part
-  polls : Part
+  starts : (slot : ℕ) (tick : Tick) → Part
+  polls : (tick : Tick) → Part
   abandons : Part
   noPart : Part
 
 abbrev pub partOf : Call → Part
 partOf (uploadRegion slot x y width height payload) = noPart
 partOf (uploadBitmap slot file) = noPart
-partOf (start slot tick) = starts slot
-partOf (poll tick out) = polls
+partOf (start slot tick) = starts slot tick
+partOf (poll tick out) = polls tick
 partOf abandon = abandons
 partOf (writeBitmap slot out) = noPart
 
@@ -87,8 +87,8 @@ ofReply call before r after out =
     record { seen = event call before (number (r .number)) []; state = r .state; memory = after; out = out }
 
 abbrev pub ofPoll : (call : Call) (before : List ℕ) → Polling → Called
-ofPoll call before (polling answer state memory out) =
-    record { seen = event call before (answered answer) (putOut answer out); state = state; memory = memory; out = out }
+ofPoll call before p =
+    record { seen = event call before (answered (p .answer)) (p .put); state = p .state; memory = p .memory; out = p .out }
 
 -- one call on a state and a memory, by the definition that its contract cites
 abbrev pub callOn : (state : State) (memory : List ℕ) → Call → Called
@@ -147,9 +147,9 @@ afterDone b h memory seen (underWay slot) = record { standing = atRest; shown = 
 afterDone b h memory seen abandoned = seen
 
 abbrev pub afterCall : (b h : ℕ) (memory : List ℕ) → Seen → Part → Given → Seen
-afterCall b h memory seen (starts slot) given =
+afterCall b h memory seen (starts slot tick) given =
     cond (isAccepted given) (record { standing = underWay slot; shown = seen .shown }) seen
-afterCall b h memory seen polls given = cond (isDone given) (afterDone b h memory seen (seen .standing)) seen
+afterCall b h memory seen (polls tick) given = cond (isDone given) (afterDone b h memory seen (seen .standing)) seen
 afterCall b h memory seen abandons given = cond (isAccepted given) (record { standing = abandoned; shown = seen .shown }) seen
 afterCall b h memory seen noPart given = seen
 

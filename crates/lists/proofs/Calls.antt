@@ -11,3 +11,7 @@ pub record Call (n : ℕ) (Args Result Exit : Lifetimes.Lfts n → Type 0)
   pub result : Result lifetimes
   pub exit : Exit lifetimes
   pub promised : Learnt lifetimes args result exit
+
+-- a contract that asks nothing of the arguments, whatever they are
+abbrev pub AsksNothing : (n : ℕ) (Args : Lifetimes.Lfts n → Type 0) (Asked : (l : Lifetimes.Lfts n) → Args l → Type 0) → Type 0
+AsksNothing n Args Asked = (l : Lifetimes.Lfts n) (args : Args l) → Asked l args

@@ -12,7 +12,7 @@ use lib.Dec.{eqb, leb, ltb}
 use lib.ListN.{length, getD, take, drop}
 use borrow.Author.Tests.{le-leb, lt-leb, eq-eqb, ne-eqb, leb-true, eqb-true, not-false}
 use Rattle.lists.specs.Rules.{allBelow, case, firstOf}
-use Rattle.lists.proofs.Rules.{and-left, broken, holds, below-fails}
+use Rattle.lists.proofs.Rules.{and-left, broken, holds, below-fails, refused, passed}
 use Rattle.lists.proofs.Cases.{none, more, each}
 use Rattle.panel.specs.Dots.{dot}
 use Rattle.panel.proofs.Dots.{dot-lt}
@@ -39,13 +39,15 @@ module _ (b h x y w k : ℕ) where
   unfolding regionGood
   region-flat l = sym (broken 1 tests (lt-leb 1 k l))
 
-  pub region-wide : 8 * b < x + w → false ≡ regionGood b h x y w k
+  -- by the tests of the two ends that the code has made
+  pub region-wide : {ends : Bool} → ends ≡ leb (x + w) (8 * b) → not ends ≡ true → false ≡ regionGood b h x y w k
   unfolding regionGood
-  region-wide l = sym (broken 2 tests (lt-leb (x + w) (8 * b) l))
+  region-wide e f = sym (broken 2 tests (refused e f))
 
-  pub region-last : 1 ≤ w → 1 ≤ k → x + w ≤ 8 * b → leb (y + k) h ≡ regionGood b h x y w k
+  pub region-last : {ends last : Bool} → 1 ≤ w → 1 ≤ k → ends ≡ leb (x + w) (8 * b) → not ends ≡ false → last ≡ leb (y + k) h
+      → last ≡ regionGood b h x y w k
   unfolding regionGood
-  region-last hw hk hx = simp (le-leb 1 w hw, le-leb 1 k hk, le-leb (x + w) (8 * b) hx, and-true)
+  region-last hw hk e f is = rw is (simp (le-leb 1 w hw, le-leb 1 k hk, passed e f, and-true))
 
   pub region-facts : regionGood b h x y w k ≡ true → (1 ≤ w) × (1 ≤ k) × (x + w ≤ 8 * b) × (y + k ≤ h)
   unfolding regionGood

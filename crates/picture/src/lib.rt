@@ -2,6 +2,7 @@
 ghost use mathlib.Core.Path.{_≡_};
 ghost use Prim.Native.Nat.{_+_, _-_, _*_, _/_, _<_, _≤_};
 ghost use mathlib.Core.Bool.{true};
+ghost use lib.Dec.{leb};
 ghost use lib.ListN.{length, take, drop};
 ghost use Rattle.lists.specs.Lists.{overlayAt};
 ghost use Rattle.lists.specs.Rules.{allBelow, firstOf};
@@ -107,7 +108,15 @@ pub fn put_row(b: usize, h: usize, raw: &mut [u8], y: usize, rows: &[u8], at: us
     lists::put_at(raw, y * b, &rows[at..end]);
 }
 
-// Whether a region lies on the panel. The sums are whole numbers: they are made wider before they are added.
+// Whether `size` dots from dot `from` on end by dot `limit`. The sum is a whole number: 64 bits hold it on any machine.
+fn ends_by(from: u32, size: u32, limit: usize) -> bool
+    requires { ⌜ limit ≤ 264 ⌝ }
+    ensures { λ r. ⌜ r ≡ leb (from + size) limit ⌝ }
+{
+    from as u64 + size as u64 <= limit as u64
+}
+
+// Whether a region lies on the panel.
 fn region_good(b: usize, h: usize, x: u32, y: u32, width: u32, height: u32) -> bool
     requires { ⌜ (b ≤ 33) × (h ≤ 176) ⌝ }
     ensures { λ r. ⌜ r ≡ regionGood b h x y width height ⌝ }
@@ -118,10 +127,10 @@ fn region_good(b: usize, h: usize, x: u32, y: u32, width: u32, height: u32) -> b
     if height < 1 {
         return false;
     }
-    if 8 * b < x as usize + width as usize {
+    if !ends_by(x, width, 8 * b) {
         return false;
     }
-    y as usize + height as usize <= h
+    ends_by(y, height, h)
 }
 
 fn rows_clear(width: usize, height: usize, payload: &[u8]) -> bool

@@ -14,6 +14,14 @@ answerNumber (Line n) = 0
 answerNumber (Wait ms) = 0
 answerNumber Done = 0
 
+-- the ms still to go, told by a wait answer; 0 in every other
+abbrev pub answerMs : Answer → ℕ
+answerMs (Refused number) = 0
+answerMs (Write n) = 0
+answerMs (Line n) = 0
+answerMs (Wait ms) = ms
+answerMs Done = 0
+
 -- the bytes that were put out, by the answer and the output at exit
 abbrev pub putOut : (answer : Answer) (out : List ℕ) → List ℕ
 putOut (Refused number) out = []

@@ -2,7 +2,8 @@
 -- Assumes nothing.
 use mathlib.Core.Path.{_≡_}
 use mathlib.Core.Bool.{or-true}
-use Prim.Native.Nat.{_≤_, _<_, _^_}
+use Prim.Native.Nat.{ℕ, _≤_, _<_, _^_}
+use native.Mathlib.Omega.{arith}
 use borrow.Author.Tests.{le-leb, lt-leb}
 use Rattle.run.specs.Clock.{stepFrom, passedAt, clockRefused, readingOf}
 use Rattle.run.specs.declared.Tick.{Tick}
@@ -10,9 +11,10 @@ use Rattle.run.specs.declared.Passed.{Passed}
 use Rattle.run.specs.declared.Reading.the-variants.{At, Refused}
 
 module _ (passed : Passed) (last tick : Tick) where
-  pub clock-back : 2 ^ 31 ≤ stepFrom last tick → readingOf passed last tick ≡ Refused
+  -- by the step that the code has found
+  pub clock-back : {step : ℕ} → step ≡ stepFrom last tick → 2147483648 ≤ step → Refused ≡ readingOf passed last tick
   unfolding readingOf clockRefused
-  clock-back h = rw (le-leb (2 ^ 31) (stepFrom last tick) h)
+  clock-back e h = rw (le-leb (2 ^ 31) (stepFrom last tick) (omega (arith, e, h)))
 
   pub clock-end : 2 ^ 64 ≤ passedAt passed last tick → readingOf passed last tick ≡ Refused
   unfolding readingOf clockRefused

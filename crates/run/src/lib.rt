@@ -310,11 +310,11 @@ fn start_valid(file: &[u8], plan: Plan, run: Run, k: u32) -> bool
     requires { ⌜ PlanOf (now file) plan ⌝ }
     ensures { λ r. ⌜ r ≡ placeValid (now (file .entry)) run (Position.Start k) ⌝ }
 {
-    let section = plan.start;
-    if section.count < k as usize {
+    let starts = plan.start;
+    if starts.count < k as usize {
         return false;
     }
-    if !after_write(file, plan.panel, section, k) {
+    if !after_write(file, plan.panel, starts, k) {
         return false;
     }
     if run.first.0 != 0 {
@@ -357,11 +357,11 @@ fn stop_valid(file: &[u8], plan: Plan, run: Run, k: u32) -> bool
 {
     let first = run.first;
     let handed = run.handed;
-    let section = plan.stop;
-    if section.count < k as usize {
+    let stops = plan.stop;
+    if stops.count < k as usize {
         return false;
     }
-    if !after_write(file, plan.panel, section, k) {
+    if !after_write(file, plan.panel, stops, k) {
         return false;
     }
     frame_due_by(first, frame_before(4 * plan.shape.frames, k), handed)

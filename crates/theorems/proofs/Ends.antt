@@ -1,13 +1,14 @@
 -- A run comes to its end where polls keep coming: once as many things were handed out as it has, it is over; a poll that comes no
 -- earlier than the next thing is due hands it out; and a wait answer tells exactly when that is.
 -- Assumes nothing.
-use mathlib.Core.Path.{_≡_, refl, ap}
+use mathlib.Core.Path.{_≡_, refl, sym, ap, _∙_}
 use mathlib.Core.Bool.{true, false}
-use mathlib.Core.List.{List, [], _∷_, _++_}
+use mathlib.Core.List.{List, [], _∷_, _++_, append-assoc}
 use Prim.Native.Nat.{ℕ, suc, _+_, _-_, _≤_, _<_}
 use native.Mathlib.Omega.{arith}
 use borrow.Author.Tests.{lt-ltb, le-ltb}
 use lib.ListN.{length, drop}
+use Rattle.lists.proofs.Rules.{or-left, or-right}
 use Rattle.settings.specs.Settings.{startSteps, stopSteps, rowsIn}
 use Rattle.run.specs.Clock.{stepFrom, passedAt, clockRefused}
 use Rattle.run.specs.Due.{runFrames, dueAt, dueOf}
@@ -23,9 +24,10 @@ use Rattle.run.specs.declared.Phase.{Phase}
 use Rattle.run.specs.declared.Phase.the-variants.{Idle, Abandoned, Running}
 use Rattle.board.specs.State.{fileOf}
 use Rattle.board.specs.Calls.{isRunning, starting}
-use Rattle.board.specs.History.{Call, Event, answered, eventsOf}
+use Rattle.board.specs.History.{Call, Event, answered, isDone, eventsOf}
 use Rattle.theorems.specs.Order.{Thing, aWrite, aLine, theEnd, writesOf, rowsFrom, framesFrom, stagesFrom, thingsOfRun, thingsFrom, thingsIn, thingAnswer}
 use Rattle.theorems.specs.Progress.{isHandOut, handsOut, AllGo, none, more, nothing, hands, noTurns, stateAfter, handOuts, answerIn}
+use Rattle.theorems.specs.Frames.{wasDone}
 use Rattle.board.specs.declared.State.{State}
 use Rattle.theorems.proofs.Handed.{hands-some}
 use Rattle.theorems.proofs.Progress.{run-in-order}
@@ -78,6 +80,39 @@ pub run-ends : (state : State) (memory : List ℕ) (slot : ℕ) (tick : Tick) (c
 run-ends state memory slot tick calls accepted quiet all =
     over (fileOf state) (stateAfter (starting state (length memory) slot tick .state) memory calls .store .phase)
     (omega (arith, hands-counted (run-in-order state memory slot tick calls accepted quiet), all))
+
+-- ---- and its last answer was done
+
+-- where things are handed out up to the end, one of the events answered done
+goes-done : {file : List ℕ} {slot : ℕ} {toCome rest : List Thing} {es : List Event} → AllGo file slot toCome es rest
+    → (before : List Thing) → toCome ≡ before ++ (theEnd ∷ []) → rest ≡ [] → wasDone es ≡ true
+goes-done none before e z = absurd (not-empty before the-end (sym e ∙ z))
+goes-done (more (nothing {given = given} q) all) before e z = or-right (isDone given) _ (goes-done all before e z)
+goes-done {file} {slot} (more (hands {memory = memory} thing) all) [] e z =
+    let is : thing ≡ theEnd = cc in
+    let done : isDone (answered (thingAnswer file memory slot thing)) ≡ true = rw is in
+    or-left _ _ done
+goes-done {file} {slot} (more (hands {memory = memory} thing) all) (x ∷ before) e z =
+    or-right (isDone (answered (thingAnswer file memory slot thing))) _ (goes-done all before (let q : _ ≡ _ = cc in q) z)
+
+-- the end is the last of the things of a run
+run-last : (file : List ℕ)
+    → thingsOfRun file
+    ≡ (writesOf (startSteps file) ++ (stagesFrom (rowsIn file) (runFrames file) 1 4 ++ writesOf (stopSteps file))) ++ (theEnd ∷ [])
+run-last file =
+    let a = writesOf (startSteps file) in
+    let b = stagesFrom (rowsIn file) (runFrames file) 1 4 in
+    let c = writesOf (stopSteps file) in
+    sym (append-assoc a (b ++ c) (theEnd ∷ []) ∙ ap (λ (l : List Thing). a ++ l) (append-assoc b c (theEnd ∷ [])))
+
+pub all-done : {file : List ℕ} {slot : ℕ} {rest : List Thing} {es : List Event} → AllGo file slot (thingsOfRun file) es rest
+    → handOuts es ≡ length (thingsOfRun file) → wasDone es ≡ true
+all-done {file} {slot} {rest} go all =
+    goes-done go (writesOf (startSteps file) ++ (stagesFrom (rowsIn file) (runFrames file) 1 4 ++ writesOf (stopSteps file))) (run-last file) (none-left rest (omega (arith, hands-counted go, all)))
+  where
+    none-left : (things : List Thing) → length things ≡ 0 → things ≡ []
+    none-left [] e = refl
+    none-left (x ∷ xs) e = absurd (let z : suc (length xs) ≡ 0 = e in omega arith)
 
 -- ---- a poll that is due
 

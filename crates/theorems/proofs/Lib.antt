@@ -10,5 +10,14 @@ pub mod Things
 pub mod Order
 pub mod Progress
 pub mod Ends
+-- Each in its time.
+pub mod Items
+pub mod PollTiming
+pub mod Timing
+-- A stage is N equal frames.
+pub mod Frames
 -- Document 01's table of sums checked by hand.
 pub mod Worked
+pub mod WorkedTimes
+-- The theorems over the contracts as they stand in the source.
+pub mod Tied

@@ -37,19 +37,19 @@ use Rattle.theorems.proofs.Kept.{stays-valid, valid-kept}
 use Rattle.theorems.proofs.Order.{in-order}
 
 -- a run under way shows this slot
-abbrev runsOn : Phase → (slot : ℕ) → Bool
+abbrev pub runsOn : Phase → (slot : ℕ) → Bool
 runsOn Idle slot = true
 runsOn Abandoned slot = true
 runsOn (Running run) slot = eqb (run .slot) slot
 
 -- a call keeps the settings file and the run's slot, and its event goes through what is to come
-record Onward (file : List ℕ) (slot : ℕ) (toCome : List Thing) (called : Called) : Type 0 where
+pub record Onward (file : List ℕ) (slot : ℕ) (toCome : List Thing) (called : Called) : Type 0 where
   pub file-kept : fileOf (called .state) ≡ file
   pub slot-kept : runsOn (called .state .store .phase) slot ≡ true
   pub goes : Goes file slot toCome (called .seen) (thingsIn file (called .state .store .phase))
 
 -- a refusal hands nothing out
-refused-hands : (given : Given) → isAccepted given ≡ false → handsOut given ≡ false
+pub refused-hands : (given : Given) → isAccepted given ≡ false → handsOut given ≡ false
 refused-hands (number n) e = refl
 refused-hands (answered (answer.Refused n)) e = refl
 refused-hands (answered (answer.Write n)) e = absurd (false≢true (sym e))
@@ -60,7 +60,7 @@ refused-hands (answered answer.Done) e = absurd (false≢true (sym e))
 -- ---- a poll of a run
 
 -- what is put out of a thing is its bytes
-put-thing : (file memory : List ℕ) (slot : ℕ) (thing : Thing) (out : List ℕ)
+pub put-thing : (file memory : List ℕ) (slot : ℕ) (thing : Thing) (out : List ℕ)
     → putOut (thingAnswer file memory slot thing) (overlay (thingBytes file memory slot thing) out) ≡ thingBytes file memory slot thing
 put-thing file memory slot (aWrite step) out = take-overlay (stepBytes step) out
 put-thing file memory slot (aLine stage frame row) out = take-overlay (lineBytes file memory slot stage row) out
@@ -136,7 +136,7 @@ module _ (state : State) (memory : List ℕ) (slot : ℕ) (valid : stateValid st
       }
   effect-on (effects.hands tick out run moment at due) f = handed tick out run (at .runs) moment
 
-  call-on : (call : Call) → turns (callOn state memory call .seen) ≡ false → Goes-on (callOn state memory call)
+  pub call-on : (call : Call) → turns (callOn state memory call .seen) ≡ false → Goes-on (callOn state memory call)
   call-on call = effect-on (effect state memory call)
 
 -- ---- every list of calls

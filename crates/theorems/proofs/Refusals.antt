@@ -14,6 +14,7 @@ use Rattle.board.specs.State.{fileOf}
 use Rattle.board.specs.History.{Call, isAccepted, givenBy, outOf, Called, callOn}
 use Rattle.board.specs.declared.State.{State}
 use Rattle.board.proofs.Effects.{Effect, refuses, reads, draws, starts, abandons, waits, hands, polledTo, effect}
+use Rattle.theorems.specs.Refusals.{Unchanged}
 use Rattle.theorems.specs.Progress.{isHandOut, answerIn}
 use Rattle.theorems.proofs.Handed.{hands-some}
 
@@ -28,12 +29,6 @@ handed-number answer.Done e = refl
 polled-accepted : (state : State) (memory : List ℕ) (tick : Tick) (out : List ℕ) (o : Outcome) → isHandOut (answerIn o) ≡ true
     → isAccepted (givenBy (polledTo state memory tick out o .seen)) ≡ true
 polled-accepted state memory tick out (outcome given phase memory′ out′) e = handed-number given e
-
--- the state, the memory and the output are as they were
-pub record Unchanged (state : State) (memory : List ℕ) (call : Call) (called : Called) : Type 0 where
-  pub state-same : called .state ≡ state
-  pub memory-same : called .memory ≡ memory
-  pub out-same : called .out ≡ outOf call
 
 module _ (state : State) (memory : List ℕ) where
   unchanged : {call : Call} {called : Called} → Effect state memory call called → isAccepted (givenBy (called .seen)) ≡ false

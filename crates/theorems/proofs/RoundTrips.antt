@@ -1,7 +1,8 @@
 -- Bitmap files through a slot: a file that was uploaded is written in normal form, and what was written, uploaded again to the slot
--- that it came from, leaves the memory as it is. So a second time changes nothing.
+-- that it came from, leaves the memory as it is. So a second time changes nothing. Uploaded to a slot of any store of the panel, the file
+-- carries the picture there.
 -- Assumes nothing.
-use mathlib.Core.Path.{_≡_, refl, sym, ap, _∙_}
+use mathlib.Core.Path.{_≡_, refl, sym, ap, _∙_, subst}
 use mathlib.Core.Bool.{true, false, not}
 use mathlib.Core.List.{List, _++_}
 use Prim.Native.Nat.{ℕ, _+_, _*_, _≤_, _<_}
@@ -9,14 +10,16 @@ use borrow.Author.Tests.{not-false, eqb-false}
 use lib.ListN.{length, take}
 use Rattle.lists.specs.Lists.{overlay}
 use Rattle.lists.proofs.Lists.{take-overlay}
-use Rattle.lists.proofs.Rules.{None, none, past, taken, by-cases, none-parts, none-both}
+use Rattle.lists.proofs.Rules.{None, none, past, taken, by-cases, none-of, none-parts, none-both}
 use Rattle.panel.specs.Facts.{Sized}
+use Rattle.panel.specs.declared.Shape.{Shape}
+use Rattle.panel.specs.Panels.{shapeOf}
 use Rattle.panel.proofs.Panels.{size-of}
 use Rattle.settings.specs.Settings.{panelOf, rowBytesIn, rowsIn, strideIn}
 use Rattle.settings.proofs.Accepted.{good-panel}
 use Rattle.picture.specs.Slots.{slotPicture, withPicture}
 use Rattle.picture.proofs.Pictures.{Bytes}
-use Rattle.picture.proofs.Slots.{Rows, slot-fits, rows-slot, with-own-picture, length-with-picture, picture-same}
+use Rattle.picture.proofs.Slots.{Rows, slot-fits, rows-slot, with-own-picture, length-with-picture, picture-same, others-kept}
 use Rattle.bitmap.specs.Header.{fileLength}
 use Rattle.bitmap.specs.Bitmap.{bitmapGood, readPicture, writtenFile, normalForm}
 use Rattle.bitmap.proofs.RoundTrip.{length-file, rows-read, read-written, write-read, read-normal, good-written}
@@ -24,6 +27,7 @@ use Rattle.board.specs.State.{fileOf, sizesOf, storeBytes, storeCases}
 use Rattle.board.specs.Calls.{isRunsSlot, reply, uploadOwn, uploadCases, bitmapCases, bitmapDrawn, bitmapUpload, writeOwn, writeCases, bitmapWritten, bitmapWrite}
 use Rattle.board.specs.declared.State.{State}
 use Rattle.board.specs.declared.Reply.{Reply}
+use Rattle.theorems.specs.Copies.{fileLeft, Carried, FileCarries}
 use Rattle.board.proofs.States.{Tested, tested, store-free, valid-state}
 use Rattle.board.proofs.Tests.{Uploadable, uploadable, upload-free, Writable, writable, write-free}
 
@@ -152,3 +156,77 @@ module _ (state : State) where
         let good : bitmapGood b h s (normalForm b h s file) ≡ true =
         rw (← form) (good-written b h s (z .narrow) (z .low) (z .small) (readPicture b h s file)) in
         uploads memory slot (normalForm b h s file) t may good ∙ rw (read-normal b h s (z .some) (z .within) file))
+
+-- ---- a written file, uploaded to a slot of any store of the panel
+
+module _ (memory : List ℕ) (source : ℕ) (out : List ℕ) where
+  -- the picture and the file of the slot that is written, on a panel of these sizes
+  abbrev pictureOn : Shape → List ℕ
+  pictureOn z = slotPicture (z .bytes) (z .rows) memory source
+
+  abbrev fileOn : Shape → List ℕ
+  fileOn z = writtenFile (z .bytes) (z .rows) (z .stride) (pictureOn z)
+
+  -- the file is accepted and reads back as the picture, and the output has it
+  record Made (z : Shape) : Type 0 where
+    pub rows : Rows (z .bytes) (z .rows) (pictureOn z)
+    pub good : bitmapGood (z .bytes) (z .rows) (z .stride) (fileOn z) ≡ true
+    pub read : readPicture (z .bytes) (z .rows) (z .stride) (fileOn z) ≡ pictureOn z
+    pub left : fileLeft z (bitmapWritten z memory source out) ≡ fileOn z
+
+  written-file : (state : State) → Bytes memory → None (writeCases state (length memory) source (length out)) → Made (sizesOf state)
+  written-file state bytes all =
+      let parts = none-parts (storeCases state (length memory)) (writeOwn (state .store) (sizesOf state) source (length out)) all in
+      let t = tested state (length memory) (parts .0) in
+      let high = writable (state .store) (sizesOf state) source (length out) (parts .1) .high in
+      let z = size state memory source t in
+      let picture = pictureOn (sizesOf state) in
+      let slot = rows-slot (b state) (h state) memory source (fits state memory source t high) (z .some) bytes in
+      record {
+        rows = slot;
+        good = good-written (b state) (h state) (s state) (z .narrow) (z .low) (z .small) picture;
+        read = read-written (b state) (h state) (s state) (z .some) (z .within) picture (slot .0);
+        left = rw (← length-file (b state) (h state) (s state) picture) (take-overlay (fileOn (sizesOf state)) out);
+      }
+
+  carried : (other : State) (before : List ℕ) (slot : ℕ) → None (uploadCases other (length before) slot) → Made (sizesOf other)
+      → Carried (sizesOf other) memory source other before slot (bitmapUpload other before slot (fileOn (sizesOf other)))
+  carried other before slot free file =
+      let parts = none-parts (storeCases other (length before)) (uploadOwn (other .store) slot) free in
+      let t = tested other (length before) (parts .0) in
+      let may = uploadable (other .store) slot (parts .1) in
+      let z = size other before slot t in
+      let inside = fits other before slot t (may .takes .high) in
+      let left = uploads other before slot (fileOn (sizesOf other)) t may (file .good) in
+      record {
+        accepted = ap (λ (r : Reply × List ℕ). r .0) left;
+        holds = rw (left, file .read) (picture-same (b other) (h other) before slot inside (z .some) (pictureOn (sizesOf other)) (file .rows));
+        others =
+            λ u d.
+            rw (left, file .read)
+            (others-kept (b other) (h other) (other .store .slots) before (t .exact) slot (may .takes .high) (pictureOn (sizesOf other))
+            (file .rows .0) u d);
+      }
+
+pub file-carries : FileCarries
+unfolding bitmapWrite
+file-carries state memory source out bytes accepted other before slot same-panel free =
+    by-cases
+    (λ (r : Reply × List ℕ).
+    r .0 .number ≡ 0
+    → Carried (sizesOf state) memory source other before slot (bitmapUpload other before slot (fileLeft (sizesOf state) (r .1))))
+    (writeCases state (length memory) source (length out)) (λ number. (reply number state, out))
+    (reply 0 state, bitmapWritten (sizesOf state) memory source out) refl
+    (λ number e z. absurd (eqb-false number 0 e z))
+    (λ all y.
+    let sizes : sizesOf state ≡ sizesOf other = ap shapeOf (sym same-panel) in
+    let file = subst (Made memory source out) sizes (written-file memory source out state bytes all) in
+    let takes = none-of (uploadCases other (length before) slot) refl {r = 0} (sym free) refl in
+    let there = carried memory source out other before slot takes file in
+    let put : Carried (sizesOf other) memory source other before slot
+    (bitmapUpload other before slot (fileLeft (sizesOf other) (bitmapWritten (sizesOf other) memory source out))) =
+    rw (file .left) there in
+    subst
+    (λ (z : Shape). Carried z memory source other before slot (bitmapUpload other before slot (fileLeft z (bitmapWritten z memory source out))))
+    (sym sizes) put)
+    accepted

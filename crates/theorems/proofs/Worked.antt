@@ -1,30 +1,34 @@
 -- Document 01, "Sums checked by hand": the items that are proved together, as one table under one statement, through the
--- definitions that the contracts cite.
+-- definitions that the contracts cite; and the figures that 01 gives, as another.
 -- Assumes nothing.
-use mathlib.Core.Path.{_≡_, refl}
+use mathlib.Core.Path.{_≡_, refl, _∙_}
 use mathlib.Core.List.{List, [], _∷_, map}
-use Prim.Native.Nat.{ℕ, _+_}
+use mathlib.Core.Bool.{true}
+use Prim.Native.Nat.{ℕ, _+_, _≤_}
 use lib.IntN.{ℤ, pos, negsuc}
-use lib.ListN.{take, drop, replicate}
+use lib.ListN.{length, take, drop, replicate}
+use Rattle.panel.specs.Panels.{rowsOf, rowBytesOf, pictureBytesOf, strideOf}
 use Rattle.panel.specs.Registers.{dataLength, channelData, gateSourceLevel}
 use Rattle.panel.specs.Codes.{codeBy}
 use Rattle.panel.specs.Dots.{rowDot, dot}
-use Rattle.wire.specs.Line.{evenByte, oddByte, scanByte, line, handedLine}
+use Rattle.wire.specs.Line.{evenByte, oddByte, scanByte, line, lineLength, handedLine}
 use Rattle.wire.specs.Reading.{dotBits, scanBits, pushOf, pushed}
+use Rattle.wire.proofs.Line.{length-handed}
 use Rattle.settings.specs.Settings.{requiredData, writeOf, waitOf, stepOf, settingsGood}
-use Rattle.settings.proofs.Examples.{example}
+use Rattle.settings.proofs.Accepted.{good-short}
+use Rattle.settings.proofs.Examples.{example, longest, longest-reached}
 use Rattle.picture.specs.Pictures.{draw, over, overdrawn}
 use Rattle.picture.specs.Slots.{pictureOf, rawOf, slotBytes, withBytes, slotPicture, withPicture}
 use Rattle.picture.specs.Regions.{regionGood, payloadGood, withRegion}
+use Rattle.bitmap.specs.Header.{fileLength}
 use Rattle.balance.specs.Sums.{sumOf}
 use Rattle.run.specs.Clock.{stepFrom, clockRefused}
 use Rattle.run.specs.Due.{dueOf}
 use Rattle.run.specs.Conditions.{runValid}
 use Rattle.run.specs.declared.Tick.{Tick}
-use Rattle.poll.specs.Answers.{answerNumber}
 use Rattle.poll.specs.Poll.{pollAt, pollRun}
 use Rattle.board.specs.State.{stateValid, openedState}
-use Rattle.board.specs.Calls.{regionUpload, starting, Polling, polling, polled}
+use Rattle.board.specs.Calls.{regionUpload, starting, polled}
 use Rattle.board.specs.declared.State.{State}
 
 -- ---- the stores of the table
@@ -57,13 +61,9 @@ regionNumber state memory x width payload = regionUpload state memory 1 x 0 widt
 abbrev regionBytes : (x width : ℕ) (payload : List ℕ) → List ℕ
 regionBytes x width payload = take 2 (drop 1536 (regionUpload small smallMemory 1 x 0 width 1 payload .1))
 
-abbrev numberOfPoll : Polling → ℕ
-numberOfPoll (polling answer state memory out) = answerNumber answer
-
 -- the number of a poll at a tick reading, right after a start at another
 abbrev pollNumber : (from to : ℕ) → ℕ
-pollNumber from to =
-    numberOfPoll (polled (starting small 3072 1 (tickAt from) .state) (tickAt to) smallMemory (replicate 117 0))
+pollNumber from to = polled (starting small 3072 1 (tickAt from) .state) (tickAt to) smallMemory (replicate 117 0) .number
 
 -- what a dot of a one-byte row is pushed over four stages of one frame, read from the bytes handed out
 abbrev fourStages : (shown new x : ℕ) → ℤ
@@ -112,4 +112,41 @@ worked-by-hand =
       step-30 = refl;
       step-taken = refl;
       step-back = refl;
+    }
+
+-- ---- the figures of document 01
+
+-- of one panel: its picture bytes P, the length of its bitmap file, and the bytes that a poll puts out for a line, whichever it is
+pub record PanelFigures (panel P bitmap line : ℕ) : Type 0 where
+  pub picture-bytes : pictureBytesOf panel ≡ P
+  pub bitmap-length : fileLength (rowsOf panel) (strideOf panel) ≡ bitmap
+  pub line-length : (stage row : ℕ) (dots : ℕ → ℕ) → length (handedLine (rowBytesOf panel) (rowsOf panel) stage row dots) ≡ line
+
+pub record Figures : Type 0 where
+  pub panel-0 : PanelFigures 0 1536 1598 63
+  pub panel-1 : PanelFigures 1 2400 2750 81
+  pub panel-2 : PanelFigures 2 5808 6398 117
+  -- a file of 637 bytes is accepted, and none that is longer
+  pub longest-length : length longest ≡ 637
+  pub longest-accepted : settingsGood longest ≡ true
+  pub none-longer : (file : List ℕ) → settingsGood file ≡ true → length file ≤ 637
+
+panel-figures : (panel line : ℕ) → lineLength (rowBytesOf panel) (rowsOf panel) + 7 ≡ line
+    → PanelFigures panel (pictureBytesOf panel) (fileLength (rowsOf panel) (strideOf panel)) line
+panel-figures panel line e =
+    record {
+      picture-bytes = refl;
+      bitmap-length = refl;
+      line-length = λ stage row dots. length-handed (rowBytesOf panel) (rowsOf panel) stage row dots ∙ e;
+    }
+
+pub figures : Figures
+figures =
+    record {
+      panel-0 = panel-figures 0 63 refl;
+      panel-1 = panel-figures 1 81 refl;
+      panel-2 = panel-figures 2 117 refl;
+      longest-length = longest-reached .0;
+      longest-accepted = longest-reached .1;
+      none-longer = good-short;
     }

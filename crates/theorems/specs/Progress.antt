@@ -38,8 +38,8 @@ pub data AllGo (file : List ℕ) (slot : ℕ) : List Thing → List Event → Li
 
 -- an accepted start or abandon, after which another run is under way, or none
 abbrev pub turnsBy : Part → Given → Bool
-turnsBy (starts slot) given = isAccepted given
-turnsBy polls given = false
+turnsBy (starts slot tick) given = isAccepted given
+turnsBy (polls tick) given = false
 turnsBy abandons given = isAccepted given
 turnsBy noPart given = false
 

@@ -1,8 +1,10 @@
 // How a start clock shows a bib: the loop of its firmware, and uploads before it, on a store of slots 0 and 1. The bus and the clock
 // are simulated: what would go to the panel stands in `bus`, one thing after another, and a wait moves the tick on. Exported for C,
 // where it is timed and compared.
+ghost use mathlib.Core.Path.{_≡_};
 ghost use Prim.Native.Nat.{_≤_};
 ghost use lib.ListN.{length};
+ghost use Rattle.update_loop.specs.Loop.{indexAfter, slotShown, bitmapStored, regionStored, numbered, updated};
 use board::State;
 use poll::Answer;
 use run::Tick;
@@ -13,7 +15,7 @@ const ENOUGH: u32 = 20000;
 // The index n bytes after `at`, or the length of the bus where that is less.
 fn after(bus: &[u8], at: usize, n: usize) -> usize
     requires { ⌜ at ≤ length (now bus) ⌝ }
-    ensures { λ r. ⌜ r ≤ length (now (bus .entry)) ⌝ }
+    ensures { λ r. ⌜ (r ≡ indexAfter (now (bus .entry)) at n) × (r ≤ length (now (bus .entry))) ⌝ }
 {
     if bus.len() - at < n {
         return bus.len();
@@ -22,7 +24,9 @@ fn after(bus: &[u8], at: usize, n: usize) -> usize
 }
 
 // Shows slot 1: starts a run, and polls it until it is done. Answers how many bytes went to the panel, or 0 after a refusal.
-fn show(state: State, memory: &mut [u8], bus: &mut [u8]) -> usize {
+fn show(state: State, memory: &mut [u8], bus: &mut [u8]) -> usize
+    ensures { λ r. ⌜ (r, now (memory .exit), now (bus .exit)) ≡ slotShown state (now (memory .entry)) (now (bus .entry)) ⌝ }
+{
     let mut tick: u32 = 0;
     let started = state.start(memory, 1, Tick(tick));
     let mut state = started.state;
@@ -52,7 +56,10 @@ pub extern "C" fn store_update(
     bitmap: &[u8],
     memory: &mut [u8],
     bus: &mut [u8],
-) -> usize {
+) -> usize
+    ensures { λ r. ⌜ (r, now (memory .exit), now (bus .exit))
+        ≡ updated (now (settings .entry)) (now (bitmap .entry)) (now (memory .entry)) (now (bus .entry)) ⌝ }
+{
     let opened = board::open(settings, 1, memory);
     let state = opened.state;
     let uploaded = state.upload_bitmap(memory, 1, bitmap);
@@ -62,11 +69,14 @@ pub extern "C" fn store_update(
 
 // Opens a store and uploads a bitmap to slot 1; answers the number of the upload.
 #[no_mangle]
-pub extern "C" fn store_bitmap(settings: &[u8], bitmap: &[u8], memory: &mut [u8]) -> u8 {
+pub extern "C" fn store_bitmap(settings: &[u8], bitmap: &[u8], memory: &mut [u8]) -> u8
+    ensures { λ r. ⌜ (r, now (memory .exit))
+        ≡ numbered (bitmapStored (now (settings .entry)) (now (bitmap .entry)) (now (memory .entry))) ⌝ }
+{
     let opened = board::open(settings, 1, memory);
     let state = opened.state;
-    let reply = state.upload_bitmap(memory, 1, bitmap);
-    reply.number
+    let uploaded = state.upload_bitmap(memory, 1, bitmap);
+    uploaded.number
 }
 
 // Opens a store and uploads a region of slot 1; answers the number of the upload.
@@ -79,7 +89,10 @@ pub extern "C" fn store_region(
     height: u32,
     payload: &[u8],
     memory: &mut [u8],
-) -> u8 {
+) -> u8
+    ensures { λ r. ⌜ (r, now (memory .exit))
+        ≡ numbered (regionStored (now (settings .entry)) x y width height (now (payload .entry)) (now (memory .entry))) ⌝ }
+{
     let opened = board::open(settings, 1, memory);
     let state = opened.state;
     let reply = state.upload_region(memory, 1, x, y, width, height, payload);

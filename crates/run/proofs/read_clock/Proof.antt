@@ -10,9 +10,7 @@ step-from-requires : tie.Need-step-from-requires
 step-from-requires c κs = search needs
 
 returns : tie.Need-returns
-returns c =
-    let a = c .before .before .args in
-    sym (clock-back (a .passed) (a .last) (a .tick) (omega (arith, c .before .step-from .ensures)))
+returns c = search (needs, clock-back)
 
 sub-if2 : tie.Need-sub-if2
 sub-if2 c = search needs

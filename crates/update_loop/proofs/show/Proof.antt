@@ -1,15 +1,20 @@
--- `update_loop::show` is safe and ends: the measure is the number of polls left. Assumes nothing.
-use mathlib.Core.Path.{_≡_}
+-- The loop goes over what is left of `shown`: with fewer polls left, from where it stands, it ends as it would have from the start.
+-- Assumes nothing.
+use mathlib.Core.Path.{_≡_, refl, _∙_}
 use mathlib.Core.Logic.{⊎-elim}
-use Prim.Native.Nat.{_≤_}
+use Prim.Native.Nat.{_≤_, _<_}
 use native.Mathlib.Omega.{arith}
 use borrow.Author.Needs.{needs}
 use lib.ListN.{length}
+use Rattle.update_loop.specs.Loop.{showing, shown}
+use Rattle.update_loop.proofs.Loop.{from-start, no-poll-left, after-write, after-line, after-wait, after-done, after-refusal}
 use Rattle.update_loop.proofs.show.Statement.{statement}
 use Rattle.update_loop.proofs.show.Tie as tie
 
 abbrev Inv-loop : tie.InvT-loop
-Inv-loop memory₀ bus₀ tick₀ state₀ at₀ left₀ memory bus tick state at left = (length memory ≡ length memory₀) × (length bus ≡ length bus₀) × (at ≤ length bus)
+Inv-loop memory₀ bus₀ tick₀ state₀ at₀ left₀ memory bus tick state at left =
+    (length memory ≡ length memory₀) × (length bus ≡ length bus₀) × (at ≤ length bus)
+    × (shown left (showing state tick memory bus at) ≡ shown left₀ (showing state₀ tick₀ memory₀ bus₀ at₀))
 
 abbrev μ-loop : tie.MeasureT-loop
 μ-loop memory₀ bus₀ tick₀ state₀ at₀ left₀ memory bus tick state at left = left
@@ -18,7 +23,7 @@ start-requires : tie.Need-start-requires Inv-loop μ-loop
 start-requires c κs = tt
 
 loop-holds : tie.Need-loop-holds Inv-loop μ-loop
-loop-holds c = omega arith
+loop-holds c = (refl, refl, omega arith, refl)
 
 sub-poll : tie.Need-sub-poll Inv-loop μ-loop
 sub-poll c = omega arith
@@ -60,7 +65,12 @@ same-length-2 : tie.Need-same-length-2 Inv-loop μ-loop
 same-length-2 c = omega arith
 
 returns : tie.Need-returns Inv-loop μ-loop
-returns c = tt
+returns c =
+    let a = c .before .before .before .before .before .before .before .before .before .before .before .before .before .before .before .before .before .args in
+    let l = c .before .before .before .before .before .before .before .before .before .before .before .loop in
+    after-done (l .left) (l .state) (l .tick) (l .memory) (l .bus) (l .at) (omega arith) (c .before .before .before .before .before .before .before .poll .ensures) (c .enum-told .given .1)
+    ∙ l .inv .3
+    ∙ from-start (a .state) (a .memory .now) (a .bus .now) (c .before .before .before .before .before .before .before .before .before .before .before .before .before .start .ensures)
 
 enum-told-2 : tie.Need-enum-told-2 Inv-loop μ-loop
 enum-told-2 c = search needs
@@ -72,7 +82,12 @@ same-length-4 : tie.Need-same-length-4 Inv-loop μ-loop
 same-length-4 c = omega arith
 
 returns-2 : tie.Need-returns-2 Inv-loop μ-loop
-returns-2 c = tt
+returns-2 c =
+    let a = c .before .before .before .before .before .before .before .before .before .before .before .before .before .before .before .before .before .args in
+    let l = c .before .before .before .before .before .before .before .before .before .before .before .loop in
+    after-refusal (l .left) (l .state) (l .tick) (l .memory) (l .bus) (l .at) (omega arith) (c .before .before .before .before .before .before .before .poll .ensures) (c .enum-told2 .given .0 .0) (c .enum-told2 .given .1)
+    ∙ l .inv .3
+    ∙ from-start (a .state) (a .memory .now) (a .bus .now) (c .before .before .before .before .before .before .before .before .before .before .before .before .before .start .ensures)
 
 sub-left : tie.Need-sub-left Inv-loop μ-loop
 sub-left c = omega arith
@@ -81,11 +96,20 @@ loop-less : tie.Need-loop-less Inv-loop μ-loop
 loop-less c = omega arith
 
 loop-again : tie.Need-loop-again Inv-loop μ-loop
-loop-again c = (
-  omega arith,
-  omega arith,
-  ⊎-elim (λ w. omega (arith, w)) (⊎-elim (λ w. omega (arith, w)) (λ w. omega (arith, w))) (c .match .came),
-)
+loop-again c =
+    let l = c .before .before .before .before .before .before .before .before .before .before .loop in
+    let some : 0 < l .left = omega arith in
+    let e = c .before .before .before .before .before .before .poll .ensures in (
+      omega arith,
+      omega arith,
+      ⊎-elim (λ w. omega (arith, w)) (⊎-elim (λ w. omega (arith, w)) (λ w. omega (arith, w))) (c .match .came),
+      ⊎-elim
+          (λ w. after-write (l .left) (l .state) (l .tick) (l .memory) (l .bus) (l .at) some e (w .1 .given .0 .0) (w .1 .given .1) (w .5) (w .6 ∙ w .4 .ensures .0) ∙ l .inv .3)
+          (⊎-elim
+          (λ w. after-line (l .left) (l .state) (l .tick) (l .memory) (l .bus) (l .at) some e (w .1 .given .0 .0) (w .1 .given .1) (w .5) (w .6 ∙ w .4 .ensures .0) ∙ l .inv .3)
+          (λ w. after-wait (l .left) (l .state) (l .tick) (l .memory) (l .bus) (l .at) some e (w .1 .given .0 .0) (w .1 .given .1) (w .4 ∙ w .3 .ensures) (w .5) ∙ l .inv .3))
+          (c .match .came),
+    )
 
 same-length-5 : tie.Need-same-length-5 Inv-loop μ-loop
 same-length-5 c = omega arith
@@ -94,7 +118,12 @@ same-length-6 : tie.Need-same-length-6 Inv-loop μ-loop
 same-length-6 c = omega arith
 
 returns-3 : tie.Need-returns-3 Inv-loop μ-loop
-returns-3 c = tt
+returns-3 c =
+    let a = c .before .before .before .before .before .before .before .args in
+    let l = c .before .loop in
+    no-poll-left (l .left) (showing (l .state) (l .tick) (l .memory) (l .bus) (l .at)) (omega arith)
+    ∙ l .inv .3
+    ∙ from-start (a .state) (a .memory .now) (a .bus .now) (c .before .before .before .start .ensures)
 
 pub show-spec : {M : Type 1} → statement M
 show-spec =

@@ -10,7 +10,7 @@ use lib.ListN.{getD}
 use Rattle.panel.specs.Codes.{codeOf}
 use Rattle.wire.specs.Reading.{pushOf}
 use Rattle.balance.specs.Sums.{pictureOfStage}
-use Rattle.balance.specs.Moves.{Place, line, allOut, View, resting, updating, abandoned}
+use Rattle.balance.proofs.Stores.{Place, line, allOut, View, resting, updating, abandoned}
 
 -- a dot at rest: 0 where it is white, N where it is black
 unfoldable pub restExcess : (N dot : ℕ) → ℕ

@@ -1,0 +1,2 @@
+-- Laws of the definitions in specs/, which the proofs of the functions cite.
+pub mod Loop
