@@ -39,9 +39,10 @@ test: tests
 
 # What the tests run: the static libraries and the programs. Only proved crates are built.
 build:
-	rt check start_board update_loop settings_list bitmap_normal layout_list replay
+	rt check start_board update_loop by_dots settings_list bitmap_normal layout_list replay
 	rt staticlib start_board
 	rt staticlib update_loop
+	rt staticlib by_dots
 
 tests: build
 	@mkdir -p $(OUT)
@@ -57,7 +58,7 @@ tests: build
 	@echo "== the C example of a finish panel"
 	$(CC) $(CFLAGS) -Iinclude -o $(OUT)/finish_example examples/finish.c $(LIBRARY)
 	$(OUT)/finish_example | diff tests/finish/example.expected -
-	@echo "== whole updates of the update loop against plain C"
+	@echo "== whole updates of the update loop and regions against plain C"
 	$(PYTHON) -m bench.run --compare
 	@echo "== the listing program against an independent implementation"
 	$(PYTHON) -m tests.listing.compare target/bin/settings_list
@@ -77,6 +78,7 @@ tests: build
 bench:
 	rt staticlib start_board
 	rt staticlib update_loop
+	rt staticlib by_dots
 	$(PYTHON) -m bench.run
 
 ghosting:

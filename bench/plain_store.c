@@ -1,6 +1,6 @@
 /*
  * A store in plain C, as a careful engineer would write it: each call is given a pointer to the state and changes it in
- * place, and tests it first, file and all, as the rules ask (13). Dots of a region are set one by one.
+ * place, and tests it first, file and all, as the rules ask (13). A region is written row by row.
  */
 #include "plain.h"
 #include "store.h"
@@ -268,14 +268,7 @@ static uint8_t store_upload_region(struct store *store, uint8_t *memory, size_t 
     uint8_t *picture = memory + slot * picture_bytes(panel);
     uint32_t bytes = (width + 7) / 8;
     for (uint32_t j = 0; j < height; j++)
-        for (uint32_t i = 0; i < width; i++) {
-            uint8_t *byte = picture + (y + j) * panel->row_bytes + (x + i) / 8;
-            uint8_t mark = (uint8_t)(0x80 >> (x + i) % 8);
-            if (payload[j * bytes + i / 8] >> (7 - i % 8) & 1)
-                *byte |= mark;
-            else
-                *byte &= (uint8_t)~mark;
-        }
+        plain_row(picture + (y + j) * panel->row_bytes + x / 8, x % 8, width, payload + j * bytes, bytes);
     return 0;
 }
 

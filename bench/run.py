@@ -1,7 +1,8 @@
-"""Times the driver beside plain C in one run, prints the ratios and writes them to docs/BENCHMARKS.md.
+"""Times the driver beside plain C, and regions beside a loop over their dots, in one run; prints the ratios and writes them to
+docs/BENCHMARKS.md.
 
 Run from the repository's root by `make bench`, which builds the libraries. `--compare` only checks that the driver and
-plain C put the same bytes out in a whole update of each panel, and give out the same for a finish panel.
+plain C put the same bytes out in a whole update of each panel, paint the same regions and give out the same for a finish panel.
 """
 import os
 import re
@@ -15,18 +16,21 @@ from simulator.panel import PANELS
 OUT = "target/bench"
 LIBRARIES = "target/staticlib"
 COMPILE = ["gcc", "-std=c99", "-O3", "-Wall", "-Wextra", "-pedantic", "-Iinclude"]
-LINE_ROUNDS, UPDATE_ROUNDS, FINISH_ROUNDS = 60, 100, 60
+LINE_ROUNDS, UPDATE_ROUNDS, FINISH_ROUNDS, REGION_ROUNDS = 60, 100, 60, 200
+REGION_LIMITS = {"whole": 1 / 3, "part": 1 / 4}  # at most this much of the time of the loop over the region's dots
 BUS_HZ = 12_000_000
 
 
 def build():
     os.makedirs(OUT, exist_ok=True)
-    for name in ("plain", "plain_store", "plain_finish"):  # files of their own, so that the compiler does not see the calls it is timed by
+    # files of their own, so that the compiler does not see the calls it is timed by
+    for name in ("plain", "plain_store", "plain_rows", "plain_finish"):
         subprocess.run(COMPILE + ["-c", f"bench/{name}.c", "-o", f"{OUT}/{name}.o"], check=True)
     subprocess.run(COMPILE + ["bench/line.c", f"{OUT}/plain.o", f"{LIBRARIES}/libstart_board.a", "-o", f"{OUT}/line"], check=True)
     subprocess.run(COMPILE + ["bench/finish.c", f"{OUT}/plain_finish.o", f"{LIBRARIES}/libstart_board.a", "-o", f"{OUT}/finish"], check=True)
-    subprocess.run(COMPILE + ["bench/update.c", f"{OUT}/plain.o", f"{OUT}/plain_store.o", f"{LIBRARIES}/libupdate_loop.a",
-                              "-o", f"{OUT}/update"], check=True)
+    subprocess.run(COMPILE + ["bench/update.c", f"{OUT}/plain.o", f"{OUT}/plain_store.o", f"{OUT}/plain_rows.o",
+                              f"{LIBRARIES}/libupdate_loop.a", "-o", f"{OUT}/update"], check=True)
+    subprocess.run(COMPILE + ["bench/region.c", f"{OUT}/plain_rows.o", f"{LIBRARIES}/libby_dots.a", "-o", f"{OUT}/region"], check=True)
     for panel in PANELS:
         with open(settings_path(panel), "wb") as file:
             file.write(settings.read(panel))
@@ -48,6 +52,9 @@ def compare():
     for panel in PANELS:
         found = numbers([f"{OUT}/update", settings_path(panel), "1"])
         print(f"panel {panel.name}: the driver and plain C put the same {found['bytes']:,.0f} bytes out and leave the same memory")
+    found = numbers([f"{OUT}/region", "0"])
+    print(f"{found['painted']:,.0f} regions, at every x and of every width, by whole bytes, dot by dot and in plain C: the same pictures; "
+          f"{found['refused']:,.0f} refused alike")
     numbers([f"{OUT}/finish", "0"])
     print("finish panel: the driver and plain C give out the same 2,073 things")
 
@@ -65,8 +72,8 @@ def profile(panel):
             if float(share) >= 1]
 
 
-def row(work, ours, theirs, unit, scale):
-    return f"| {work} | {ours / scale:,.1f} {unit} | {theirs / scale:,.1f} {unit} | {ours / theirs:.2f} |"
+def row(work, ours, theirs, unit, scale, ratio=".2f"):
+    return f"| {work} | {ours / scale:,.1f} {unit} | {theirs / scale:,.1f} {unit} | {ours / theirs:{ratio}} |"
 
 
 def tables(panel):
@@ -82,6 +89,25 @@ def tables(panel):
         row("opening and the whole panel as one region", store["region_library"], store["region_plain"], "us", 1e3),
     ]
     return rows, line, store
+
+
+def region_rows():
+    """The writing of a region by whole bytes, beside the loop over its dots and plain C."""
+    found = numbers([f"{OUT}/region", str(REGION_ROUNDS)])
+    for name, limit in REGION_LIMITS.items():
+        if found[f"{name}_bytes"] > limit * found[f"{name}_dots"]:
+            sys.exit(f"region '{name}' takes more than {limit:.2f} of the loop over its dots")
+
+    def timed(work, name, beside, ratio):
+        return row(work, found[f"{name}_bytes"], found[f"{name}_{beside}"], "us", 1e3, ratio)
+
+    return [
+        timed("the whole panel, beside a loop over its dots", "whole", "dots", ".4f"),
+        timed("the whole panel, beside plain C for any region, `memcpy` of its rows", "whole", "plain", ".2f"),
+        timed("the whole panel, beside bare `memcpy` of 176 times 33 bytes", "whole", "bare", ".2f"),
+        timed("250 dots wide at x = 3, beside a loop over its dots", "part", "dots", ".4f"),
+        timed("250 dots wide at x = 3, beside plain C for any region, by shifts and masks", "part", "plain", ".2f"),
+    ]
 
 
 def finish_rows():
@@ -128,6 +154,8 @@ def document(panel):
         "WRITES": str(settings.writes(settings.read(panel))),
         "LINE_ROUNDS": str(LINE_ROUNDS), "UPDATE_ROUNDS": str(UPDATE_ROUNDS),
         "RATIOS": "\n".join(rows),
+        "REGION_ROUNDS": str(REGION_ROUNDS),
+        "REGIONS": "\n".join(region_rows()),
         "FINISH_ROUNDS": str(FINISH_ROUNDS),
         "FINISH": "\n".join(finish_rows()),
         "WIRE": "\n".join(wire_rows(panel, line, store)),

@@ -1,5 +1,6 @@
--- Laws of the definitions in specs/: `Pictures` of dots, bytes and rectangles, `Slots` of the lent memory, `Regions` of region
--- uploads.
+-- Laws of the definitions in specs/: `Pictures` of dots, bytes and rectangles, `Joined` of eight dots as a byte, `Slots` of the lent
+-- memory, `Regions` of region uploads.
 pub mod Pictures
+pub mod Joined
 pub mod Slots
 pub mod Regions

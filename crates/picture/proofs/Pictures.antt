@@ -13,13 +13,14 @@ use lib.Dec.{eqb, leb, ltb}
 use lib.ListN.{List·getD-eq-default, length, getD, set, take, drop, length-set, length-take}
 use lib.Seq.{getD-set-same, getD-set-other, getD-take, getD-drop}
 use borrow.Author.Tests.{lt-ltb, le-ltb, le-leb, lt-leb, eq-eqb, ne-eqb, eqb-true}
-use Rattle.lists.specs.Lists.{tabulate}
+use Rattle.lists.specs.Lists.{tabulate, overlayAt}
 use Rattle.lists.specs.Rules.{allBelow}
-use Rattle.lists.proofs.Lists.{length-tabulate, getD-tabulate, tabulate-cong, is-tabulate}
+use Rattle.lists.proofs.Lists.{length-tabulate, getD-tabulate, tabulate-cong, is-tabulate, length-overlayAt}
+use Rattle.lists.proofs.Parts.{more-rows, part-own, part-before, part-after}
 use Rattle.lists.proofs.Rules.{below-all}
 use Rattle.lists.proofs.Cases.{none, more, each}
-use Rattle.panel.specs.Dots.{bit, dot}
-use Rattle.panel.proofs.Dots.{bit-lt}
+use Rattle.panel.specs.Dots.{bit, rowDot, dot}
+use Rattle.panel.proofs.Dots.{bit-lt, dot-row}
 use Rattle.picture.specs.Pictures.{packDots, draw, over}
 
 -- every element of a list is a byte; every value of a rule is a dot
@@ -28,6 +29,10 @@ Bytes l = (k : ℕ) → getD l k 0 < 256
 
 abbrev pub Dots : (ℕ → ℕ → ℕ) → Type 0
 Dots f = (x y : ℕ) → f x y < 2
+
+pub row-dot-lt : (row : List ℕ) (x : ℕ) → rowDot row x < 2
+unfolding rowDot
+row-dot-lt row x = bit-lt (getD row (x / 8) 0) (x % 8)
 
 -- ---- bytes stay bytes
 
@@ -88,21 +93,6 @@ withBit byte j new = packDots (λ i. cond (eqb i j) new (bit byte i))
 cond-lt : (t : Bool) (a b n : ℕ) → a < n → b < n → cond t a b < n
 cond-lt true a b n p q = p
 cond-lt false a b n p q = q
-
-module _ (byte j new : ℕ) (l : new < 2) where
-  pub withBit-lt : withBit byte j new < 256
-  unfolding withBit
-  withBit-lt = pack-lt (λ i. cond (eqb i j) new (bit byte i)) (λ i. cond-lt (eqb i j) new (bit byte i) 2 l (bit-lt byte i))
-
-  bit-withBit : (i : ℕ) → i < 8 → bit (withBit byte j new) i ≡ cond (eqb i j) new (bit byte i)
-  unfolding withBit
-  bit-withBit = bit-pack (λ i. cond (eqb i j) new (bit byte i)) (λ i. cond-lt (eqb i j) new (bit byte i) 2 l (bit-lt byte i))
-
-  pub bit-same : j < 8 → bit (withBit byte j new) j ≡ new
-  bit-same h = bit-withBit j h ∙ ap (λ (t : Bool). cond t new (bit byte j)) (eq-eqb j j refl)
-
-  pub bit-other : (i : ℕ) → i < 8 → (i ≡ j → ⊥) → bit (withBit byte j new) i ≡ bit byte i
-  bit-other i h e = bit-withBit i h ∙ ap (λ (t : Bool). cond t new (bit byte i)) (ne-eqb i j e)
 
 -- the byte as the code makes it, computed for each byte and dot
 module _ (byte j : ℕ) (hb : byte < 256) (hj : j < 8) where
@@ -186,24 +176,36 @@ over-over x y w k w′ k′ x″ y″ w″ k″ new new″ old u v p q r = go (d
         ∙ over-out x y w′ k′ new old u v (λ i. m (q i))
         ∙ sym (over-out x y w k new old u v m)
 
--- one dot more in a row, and one row more
-pub over-dot : (x y i : ℕ) (new old : ℕ → ℕ → ℕ) (u v : ℕ)
-    → over (x + i) y 1 1 (λ _ _. new i 0) (over x y i 1 new old) u v ≡ over x y (i + 1) 1 new old u v
-over-dot x y i new old u v =
-    over-over x y (i + 1) 1 i 1 (x + i) y 1 1 new (λ _ _. new i 0) old u v
-    (λ j. (omega arith, let e : u - x ≡ i = omega arith in let f : v - y ≡ 0 = omega arith in rw (e, f)))
+-- n dots more in a row, and one row more
+pub over-part : (x y i n : ℕ) (new part old : ℕ → ℕ → ℕ) → ((u : ℕ) → u < n → part u 0 ≡ new (i + u) 0) → (u v : ℕ)
+    → over (x + i) y n 1 part (over x y i 1 new old) u v ≡ over x y (i + n) 1 new old u v
+over-part x y i n new part old same u v =
+    over-over x y (i + n) 1 i 1 (x + i) y n 1 new part old u v
+    (λ j. (
+      omega arith,
+      let e : i + (u - (x + i)) ≡ u - x = omega arith in
+          let f : v - y ≡ 0 = omega arith in
+          let g : u - (x + i) < n = omega arith in
+          rw f (same (u - (x + i)) g ∙ ap (λ (m : ℕ). new m 0) e),
+    ))
     (λ j. omega arith)
-    (λ j n. go (decLt u (x + i)) j n)
+    (λ j m. go (decLt u (x + i)) j m)
   where
-    go : Dec (u < x + i) → Inside x y (i + 1) 1 u v → (Inside (x + i) y 1 1 u v → ⊥) → Inside x y i 1 u v
-    go (yes l) j n = omega arith
-    go (no l) j n = absurd (n (omega arith))
+    go : Dec (u < x + i) → Inside x y (i + n) 1 u v → (Inside (x + i) y n 1 u v → ⊥) → Inside x y i 1 u v
+    go (yes l) j m = omega arith
+    go (no l) j m = absurd (m (omega arith))
 
-pub over-row : (x y w j : ℕ) (new old : ℕ → ℕ → ℕ) (u v : ℕ)
-    → over x (y + j) w 1 (λ d _. new d j) (over x y w j new old) u v ≡ over x y w (j + 1) new old u v
-over-row x y w j new old u v =
-    over-over x y w (j + 1) w j x (y + j) w 1 new (λ d _. new d j) old u v
-    (λ i. (omega arith, let f : v - y ≡ j = omega arith in rw f))
+pub over-row : (x y w j : ℕ) (new row old : ℕ → ℕ → ℕ) → ((u : ℕ) → u < w → row u 0 ≡ new u j) → (u v : ℕ)
+    → over x (y + j) w 1 row (over x y w j new old) u v ≡ over x y w (j + 1) new old u v
+over-row x y w j new row old same u v =
+    over-over x y w (j + 1) w j x (y + j) w 1 new row old u v
+    (λ i. (
+      omega arith,
+      let e : v - (y + j) ≡ 0 = omega arith in
+          let f : v - y ≡ j = omega arith in
+          let g : u - x < w = omega arith in
+          rw (e, f) (same (u - x) g),
+    ))
     (λ i. omega arith)
     (λ i n. go (decLt v (y + j)) i n)
   where
@@ -261,59 +263,115 @@ module _ (b h : ℕ) (pos : 0 < b) where
       (λ j lj. rw (byte-of (k % b) j lj, place-of (k % b) j lj, div-add-mod' k b))
       ∙ pack-bits (getD l k 0) (d k))))
 
-  -- one dot of a picture replaced: the byte that holds it is
-  pub set-bit : (l : List ℕ) → Bytes l → length l ≡ h * b → (x y new : ℕ) → x < 8 * b → y < h → new < 2
-      → set l (y * b + x / 8) (withBit (getD l (y * b + x / 8) 0) (x % 8) new) ≡ draw b h (over x y 1 1 (λ _ _. new) (dot b l))
+  -- eight dots of a picture replaced: the byte that holds them is
+  pub set-byte : (l : List ℕ) → Bytes l → length l ≡ h * b → (q y : ℕ) (f : ℕ → ℕ) → q < b → y < h → ((u : ℕ) → f u < 2)
+      → set l (y * b + q) (packDots f) ≡ draw b h (over (q * 8) y 8 1 (λ u _. f u) (dot b l))
   unfolding dot
-  set-bit l d e x y new hx hy hn =
-      sym (draw-dot l′ d′ (length-set l n byte ∙ e)) ∙ draw-cong (dot b l′) (over x y 1 1 (λ _ _. new) (dot b l)) same
+  set-byte l d e q y f hq hy df =
+      sym (draw-dot l′ d′ (length-set l n (packDots f) ∙ e)) ∙ draw-cong (dot b l′) (over (q * 8) y 8 1 (λ u _. f u) (dot b l)) same
     where
       n : ℕ
-      n = y * b + x / 8
-
-      byte : ℕ
-      byte = withBit (getD l n 0) (x % 8) new
+      n = y * b + q
 
       l′ : List ℕ
-      l′ = set l n byte
-
-      lx : x / 8 < b
-      lx = omega arith
+      l′ = set l n (packDots f)
 
       within : n < length l
-      within = rw e (digits-lt hy lx)
+      within = rw e (digits-lt hy hq)
 
       d′ : Bytes l′
       d′ k =
           elim (ℕ-discrete k n) [
-            | yes q ↦ rw q (rw (getD-set-same l n byte 0 within) (withBit-lt (getD l n 0) (x % 8) new hn))
-            | no q ↦ rw (getD-set-other l n k byte 0 q) (d k)
+            | yes r ↦ rw r (rw (getD-set-same l n (packDots f) 0 within) (pack-lt f df))
+            | no r ↦ rw (getD-set-other l n k (packDots f) 0 r) (d k)
           ]
 
-      same : (u v : ℕ) → u < 8 * b → v < h → dot b l′ u v ≡ over x y 1 1 (λ _ _. new) (dot b l) u v
-      same u v hu hv = go (ℕ-discrete (v * b + u / 8) n) (ℕ-discrete (u % 8) (x % 8))
+      same : (u v : ℕ) → u < 8 * b → v < h → dot b l′ u v ≡ over (q * 8) y 8 1 (λ u _. f u) (dot b l) u v
+      same u v hu hv = go (ℕ-discrete (v * b + u / 8) n)
         where
           lu : u / 8 < b
           lu = omega arith
 
-          row : v * b + u / 8 ≡ n → v ≡ y
-          row q = sym (digits-div v lu) ∙ ap (λ (m : ℕ). m / b) q ∙ digits-div y lx
+          go : Dec (v * b + u / 8 ≡ n) → dot b l′ u v ≡ over (q * 8) y 8 1 (λ u _. f u) (dot b l) u v
+          go (yes r) =
+              let e₁ : v ≡ y = sym (digits-div v lu) ∙ ap (λ (m : ℕ). m / b) r ∙ digits-div y hq in
+              let e₂ : u / 8 ≡ q = sym (digits-mod v lu) ∙ ap (λ (m : ℕ). m % b) r ∙ digits-mod y hq in
+              let e₃ : u % 8 ≡ u - q * 8 = omega arith in
+              let s : dot b l′ u v ≡ bit (packDots f) (u % 8) = rw r (ap (λ (m : ℕ). bit m (u % 8)) (getD-set-same l n (packDots f) 0 within)) in
+              s ∙ bit-pack f df (u % 8) (omega arith) ∙ ap f e₃
+              ∙ sym (over-in (q * 8) y 8 1 (λ u _. f u) (dot b l) u v (omega arith))
+          go (no r) =
+              ap (λ (m : ℕ). bit m (u % 8)) (getD-set-other l n (v * b + u / 8) (packDots f) 0 r)
+              ∙ sym (over-out (q * 8) y 8 1 (λ u _. f u) (dot b l) u v (λ i.
+              let e₁ : v ≡ y = omega arith in let e₂ : u / 8 ≡ q = omega arith in r (rw (e₁, e₂))))
 
-          column : v * b + u / 8 ≡ n → u / 8 ≡ x / 8
-          column q = sym (digits-mod v lu) ∙ ap (λ (m : ℕ). m % b) q ∙ digits-mod y lx
+  -- one dot of a picture replaced: the byte that holds it has the other seven as before
+  pub set-bit : (l : List ℕ) → Bytes l → length l ≡ h * b → (x y new : ℕ) → x < 8 * b → y < h → new < 2
+      → set l (y * b + x / 8) (withBit (getD l (y * b + x / 8) 0) (x % 8) new) ≡ draw b h (over x y 1 1 (λ _ _. new) (dot b l))
+  unfolding dot withBit
+  set-bit l d e x y new hx hy hn =
+      set-byte l d e (x / 8) y f (omega arith) hy (λ u. cond-lt (eqb u (x % 8)) new (bit byte u) 2 hn (bit-lt byte u))
+      ∙ draw-cong (over (x / 8 * 8) y 8 1 (λ u _. f u) (dot b l)) (over x y 1 1 (λ _ _. new) (dot b l))
+      (λ u v hu hv. go u v (dec-inside (x / 8 * 8) y 8 1 u v) (ℕ-discrete u x))
+    where
+      byte : ℕ
+      byte = getD l (y * b + x / 8) 0
 
-          go : Dec (v * b + u / 8 ≡ n) → Dec (u % 8 ≡ x % 8) → dot b l′ u v ≡ over x y 1 1 (λ _ _. new) (dot b l) u v
-          go (yes q) (yes r) =
-              let e₁ : v ≡ y = row q in
-              let e₂ : u / 8 ≡ x / 8 = column q in
-              let s : dot b l′ u v ≡ new =
-              rw (q, r) (ap (λ (m : ℕ). bit m (x % 8)) (getD-set-same l n byte 0 within) ∙ bit-same (getD l n 0) (x % 8) new hn (omega arith)) in
-              s ∙ sym (over-in x y 1 1 (λ _ _. new) (dot b l) u v (omega arith))
-          go (yes q) (no r) =
-              let s : dot b l′ u v ≡ dot b l u v =
-              rw q (ap (λ (m : ℕ). bit m (u % 8)) (getD-set-same l n byte 0 within) ∙ bit-other (getD l n 0) (x % 8) new hn (u % 8) (omega arith) r) in
-              s ∙ sym (over-out x y 1 1 (λ _ _. new) (dot b l) u v (λ i. r (let e₂ : u ≡ x = omega arith in rw e₂)))
-          go (no q) r =
-              ap (λ (m : ℕ). bit m (u % 8)) (getD-set-other l n (v * b + u / 8) byte 0 q)
-              ∙ sym (over-out x y 1 1 (λ _ _. new) (dot b l) u v (λ i.
-              let e₁ : v ≡ y = omega arith in let e₂ : u ≡ x = omega arith in q (rw (e₁, e₂))))
+      f : ℕ → ℕ
+      f u = cond (eqb u (x % 8)) new (bit byte u)
+
+      go : (u v : ℕ) → Dec (Inside (x / 8 * 8) y 8 1 u v) → Dec (u ≡ x)
+          → over (x / 8 * 8) y 8 1 (λ u _. f u) (dot b l) u v ≡ over x y 1 1 (λ _ _. new) (dot b l) u v
+      go u v (yes i) (yes r) =
+          over-in (x / 8 * 8) y 8 1 (λ u _. f u) (dot b l) u v i
+          ∙ ap (λ (t : Bool). cond t new (bit byte (u - x / 8 * 8))) (eq-eqb (u - x / 8 * 8) (x % 8) (omega arith))
+          ∙ sym (over-in x y 1 1 (λ _ _. new) (dot b l) u v (omega arith))
+      go u v (yes i) (no r) =
+          let e₁ : v ≡ y = omega arith in
+          let e₂ : u / 8 ≡ x / 8 = omega arith in
+          let e₃ : u - x / 8 * 8 ≡ u % 8 = omega arith in
+          let s : bit byte (u - x / 8 * 8) ≡ dot b l u v = rw (e₁, e₂, e₃) in
+          over-in (x / 8 * 8) y 8 1 (λ u _. f u) (dot b l) u v i
+          ∙ ap (λ (t : Bool). cond t new (bit byte (u - x / 8 * 8))) (ne-eqb (u - x / 8 * 8) (x % 8) (λ z. r (omega arith)))
+          ∙ s
+          ∙ sym (over-out x y 1 1 (λ _ _. new) (dot b l) u v (λ j. r (omega arith)))
+      go u v (no m) r =
+          over-out (x / 8 * 8) y 8 1 (λ u _. f u) (dot b l) u v m
+          ∙ sym (over-out x y 1 1 (λ _ _. new) (dot b l) u v (λ j. m (omega arith)))
+
+  -- a whole row of dots of a picture replaced: the row's bytes are
+  pub set-row : (l : List ℕ) → Bytes l → length l ≡ h * b → (row : List ℕ) → Bytes row → length row ≡ b → (y : ℕ) → y < h
+      → overlayAt (y * b) row l ≡ draw b h (over 0 y (8 * b) 1 (λ u _. rowDot row u) (dot b l))
+  set-row l d e row dr er y hy =
+      sym (draw-dot l′ d′ (length-overlayAt (y * b) l row fits ∙ e)) ∙ draw-cong (dot b l′) (over 0 y (8 * b) 1 (λ u _. rowDot row u) (dot b l)) same
+    where
+      fits : y * b + length row ≤ length l
+      fits = omega (arith, more-rows y h b hy, e, er)
+
+      l′ : List ℕ
+      l′ = overlayAt (y * b) row l
+
+      d′ : Bytes l′
+      d′ =
+          bytes-append (take (y * b) l) (row ++ drop (length row) (drop (y * b) l)) (bytes-take (y * b) l d)
+          (bytes-append row (drop (length row) (drop (y * b) l)) dr (bytes-drop (length row) (drop (y * b) l) (bytes-drop (y * b) l d)))
+
+      -- a row with the bytes that it had has the dots that it had
+      kept : (u v : ℕ) → u < 8 * b → take b (drop (v * b) l′) ≡ take b (drop (v * b) l) → dot b l′ u v ≡ dot b l u v
+      kept u v hu q = sym (dot-row b l′ u v hu) ∙ ap (λ (r : List ℕ). rowDot r u) q ∙ dot-row b l u v hu
+
+      same : (u v : ℕ) → u < 8 * b → v < h → dot b l′ u v ≡ over 0 y (8 * b) 1 (λ u _. rowDot row u) (dot b l) u v
+      same u v hu hv = go (decLt v y) (decLt y v)
+        where
+          go : Dec (v < y) → Dec (y < v) → dot b l′ u v ≡ over 0 y (8 * b) 1 (λ u _. rowDot row u) (dot b l) u v
+          go (yes p) q =
+              kept u v hu (part-before (y * b) l row fits (v * b) b (more-rows v y b p))
+              ∙ sym (over-out 0 y (8 * b) 1 (λ u _. rowDot row u) (dot b l) u v (λ i. omega arith))
+          go (no p) (yes q) =
+              kept u v hu (part-after (y * b) l row fits (v * b) b (omega (arith, more-rows y v b q, er)))
+              ∙ sym (over-out 0 y (8 * b) 1 (λ u _. rowDot row u) (dot b l) u v (λ i. omega arith))
+          go (no p) (no q) =
+              let f : v ≡ y = omega arith in
+              let z : u - 0 ≡ u = omega arith in
+              let s : dot b l′ u y ≡ rowDot row u = sym (dot-row b l′ u y hu) ∙ ap (λ (r : List ℕ). rowDot r u) (part-own (y * b) l row fits b er) in
+              rw f (s ∙ sym (over-in 0 y (8 * b) 1 (λ u _. rowDot row u) (dot b l) u y (omega arith) ∙ ap (rowDot row) z))

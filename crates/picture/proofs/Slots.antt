@@ -3,21 +3,22 @@
 use mathlib.Core.Path.{_≡_, refl, sym, ap, _∙_}
 use mathlib.Core.List.{List, _++_}
 use Prim.Native.Nat.{ℕ, _+_, _-_, _*_, _/_, _%_, _^_, _≤_, _<_}
-use native.Mathlib.Nat.{add-sub-cancel-left}
+use native.Mathlib.Nat.{add-assoc, zero-add, suc-mul, add-sub-cancel-left}
+use native.Mathlib.Numerals.{add-one}
 use native.Mathlib.Omega.{arith}
 use native.Mathlib.Decide.{decLt}
 use lib.Bits.{bitAnd, bitOr}
 use lib.ListN.{length, getD, set, take, drop, replicate, length-drop, take-append-drop}
-use lib.Seq.{drop-drop, take-append-le, drop-append-le}
+use lib.Seq.{drop-drop, take-append-le, drop-append-le, ext-getD}
 use Rattle.lists.specs.Lists.{overlayAt}
-use Rattle.lists.proofs.Lists.{length-overlayAt}
-use Rattle.panel.specs.Dots.{dot}
-use Rattle.panel.proofs.Dots.{dot-lt}
-use Rattle.picture.specs.Pictures.{draw, over, overdrawn}
+use Rattle.lists.proofs.Lists.{length-tabulate, length-overlayAt}
+use Rattle.panel.specs.Dots.{rowDot, dot}
+use Rattle.panel.proofs.Dots.{dot-lt, dot-row}
+use Rattle.picture.specs.Pictures.{packDots, draw, over, overdrawn}
 use Rattle.picture.specs.Slots.{pictureOf, rawOf, slotBytes, withBytes, slotPicture, withPicture, pictureRow, painted}
 use Rattle.picture.specs.Facts.{SlotIn}
 use Rattle.lists.proofs.Parts.{more-rows, part-length, part-own, part-before, part-after, overlayAt-own}
-use Rattle.picture.proofs.Pictures.{Bytes, Dots, bytes-take, bytes-drop, Inside, or-white, and-black, length-draw, bytes-draw, dot-draw, draw-cong, draw-dot, set-bit, over-out, over-cong, over-lt, over-dot, over-row}
+use Rattle.picture.proofs.Pictures.{Bytes, Dots, bytes-take, bytes-drop, Inside, or-white, and-black, length-draw, bytes-draw, dot-draw, draw-cong, draw-dot, set-byte, set-bit, set-row, over-out, over-cong, over-lt, over-part, over-row}
 
 -- h rows of b bytes
 abbrev pub Rows : (b h : ℕ) (l : List ℕ) → Type 0
@@ -30,13 +31,6 @@ pub row-copied : (b h : ℕ) (l : List ℕ) (y at : ℕ) (out out′ : List ℕ)
     → out′ ≡ overlayAt at (take (y * b + b - y * b) (drop (y * b) l)) out → out′ ≡ overlayAt at (pictureRow b (pictureOf b h l) y) out
 unfolding pictureOf
 row-copied b h l y at out out′ e = rw (add-sub-cancel-left (y * b) b) at e
-
--- row y, replaced by the bytes that are to hold it
-pub row-put : (b h : ℕ) (l : List ℕ) (y : ℕ) (rows : List ℕ) (at : ℕ) (l′ : List ℕ)
-    → l′ ≡ overlayAt (y * b) (take (at + b - at) (drop at rows)) l
-    → l′ ≡ rawOf b h (overlayAt (y * b) (take b (drop at rows)) (pictureOf b h l))
-unfolding pictureOf rawOf
-row-put b h l y rows at l′ e = rw (add-sub-cancel-left at b) at e
 
 -- row y of a slot, by the bytes of the memory that hold it
 pub row-of-slot : (b h : ℕ) (m : List ℕ) (slot y : ℕ) → slot * (h * b) + h * b ≤ length m → y < h
@@ -55,6 +49,10 @@ row-of-slot b h m slot y fits low =
 pub length-raw : (b h : ℕ) (picture : List ℕ) → length picture ≡ h * b → length (rawOf b h picture) ≡ h * b
 unfolding rawOf
 length-raw b h picture e = e
+
+length-picture : (b h : ℕ) (l : List ℕ) → length l ≡ h * b → length (pictureOf b h l) ≡ h * b
+unfolding pictureOf
+length-picture b h l e = e
 
 -- bytes FF hold a picture of bytes FF
 pub blank-picture : (b h : ℕ) → pictureOf b h (replicate (h * b) 0xFF) ≡ replicate (h * b) 0xFF
@@ -77,6 +75,15 @@ module _ (b h : ℕ) (pos : 0 < b) where
   pub rows-raw : (l : List ℕ) → Rows b h l → Rows b h (rawOf b h l)
   unfolding rawOf
   rows-raw l r = r
+
+  -- eight dots replaced, by the byte that holds them: the k-th from dot x on
+  pub painted-byte : (l : List ℕ) → Rows b h l → (x y k v : ℕ) (f : ℕ → ℕ) → x % 8 ≡ 0 → x + 8 * k < 8 * b → y < h → ((u : ℕ) → f u < 2)
+      → v ≡ packDots f → set l (y * b + x / 8 + k) v ≡ painted b h l (x + 8 * k) y 8 1 (λ u _. f u)
+  unfolding pictureOf rawOf painted overdrawn
+  painted-byte l r x y k v f z hx hy d e =
+      let at : y * b + x / 8 + k ≡ y * b + (x / 8 + k) = omega arith in
+      let to : x + 8 * k ≡ (x / 8 + k) * 8 = omega arith in
+      rw (e, at, to) (set-byte b h pos l (r .1) (r .0) (x / 8 + k) y f (omega arith) hy d)
 
   -- one dot made white or black, by the byte that holds it
   module _ (l : List ℕ) (r : Rows b h l) (x y v : ℕ) (hx : x < 8 * b) (hy : y < h) where
@@ -115,7 +122,7 @@ module _ (b h : ℕ) (pos : 0 < b) where
   dot-overdrawn p x y w k new d = dot-draw b h pos (over x y w k new (dot b p)) (over-lt x y w k new (dot b p) d (dot-lt b p))
 
   -- an empty rectangle changes nothing
-  pub painted-none : (l : List ℕ) → Rows b h l → (x y w k : ℕ) (new : ℕ → ℕ → ℕ) → ((u v : ℕ) → Inside x y w k u v → ⊥)
+  painted-none : (l : List ℕ) → Rows b h l → (x y w k : ℕ) (new : ℕ → ℕ → ℕ) → ((u v : ℕ) → Inside x y w k u v → ⊥)
       → l ≡ painted b h l x y w k new
   unfolding painted overdrawn
   painted-none l r x y w k new z =
@@ -140,31 +147,132 @@ module _ (b h : ℕ) (pos : 0 < b) where
       (draw-cong b h pos (over x′ y′ w′ k′ new′ (dot b (draw b h f))) (over x y w″ k″ new old)
       (λ u v hu hv. over-cong x′ y′ w′ k′ new′ (dot b (draw b h f)) u v f (dot-draw b h pos f df u v hu hv) ∙ e u v)))
 
-  -- one dot more of a row, and one row more
-  pub painted-dot : (l : List ℕ) (x y i : ℕ) (new : ℕ → ℕ → ℕ) → Dots new
-      → painted b h (painted b h l x y i 1 new) (x + i) y 1 1 (λ _ _. new i 0) ≡ painted b h l x y (i + 1) 1 new
-  painted-dot l x y i new d =
-      painted-painted l x y i 1 (x + i) y 1 1 (i + 1) 1 new (λ _ _. new i 0) d (over-dot x y i new (dot b (pictureOf b h l)))
+  -- n dots more of a row, and one row more
+  painted-part : (l : List ℕ) (x y i n : ℕ) (new part : ℕ → ℕ → ℕ) → Dots new → ((u : ℕ) → u < n → part u 0 ≡ new (i + u) 0)
+      → painted b h (painted b h l x y i 1 new) (x + i) y n 1 part ≡ painted b h l x y (i + n) 1 new
+  painted-part l x y i n new part d same =
+      painted-painted l x y i 1 (x + i) y n 1 (i + n) 1 new part d (over-part x y i n new part (dot b (pictureOf b h l)) same)
 
-  pub painted-row : (l : List ℕ) (x y w j : ℕ) (new : ℕ → ℕ → ℕ) → Dots new
-      → painted b h (painted b h l x y w j new) x (y + j) w 1 (λ u _. new u j) ≡ painted b h l x y w (j + 1) new
-  painted-row l x y w j new d =
-      painted-painted l x y w j x (y + j) w 1 w (j + 1) new (λ u _. new u j) d (over-row x y w j new (dot b (pictureOf b h l)))
+  painted-row : (l : List ℕ) (x y w j : ℕ) (new row : ℕ → ℕ → ℕ) → Dots new → ((u : ℕ) → u < w → row u 0 ≡ new u j)
+      → painted b h (painted b h l x y w j new) x (y + j) w 1 row ≡ painted b h l x y w (j + 1) new
+  painted-row l x y w j new row d same =
+      painted-painted l x y w j x (y + j) w 1 w (j + 1) new row d (over-row x y w j new row (dot b (pictureOf b h l)) same)
 
-  -- the turns of the loops over dots and rows, from the bytes t to the bytes t′
-  pub dot-more : (l t t′ : List ℕ) (x y i v : ℕ) (new : ℕ → ℕ → ℕ) → Dots new
-      → t ≡ painted b h l x y i 1 new → v ≡ new i 0 → t′ ≡ painted b h t (x + i) y 1 1 (λ _ _. v)
-      → (length t′ ≡ h * b) × (t′ ≡ painted b h l x y (i + 1) 1 new)
-  dot-more l t t′ x y i v new d e q r =
-      let f : t′ ≡ painted b h l x y (i + 1) 1 new = r ∙ rw (e, q) (painted-dot l x y i new d) in
-      (ap length f ∙ rows-painted l x y (i + 1) 1 new d .0, f)
+  -- a part of a row more, and the turns of the loops over dots, bytes and rows, from the bytes t to the bytes t′
+  part-more : (l t t′ : List ℕ) (x y i n : ℕ) (new part : ℕ → ℕ → ℕ) → Dots new → ((u : ℕ) → u < n → part u 0 ≡ new (i + u) 0)
+      → t ≡ painted b h l x y i 1 new → t′ ≡ painted b h t (x + i) y n 1 part
+      → (length t′ ≡ h * b) × (t′ ≡ painted b h l x y (i + n) 1 new)
+  part-more l t t′ x y i n new part d same e r =
+      let f : t′ ≡ painted b h l x y (i + n) 1 new = r ∙ rw e (painted-part l x y i n new part d same) in
+      (ap length f ∙ rows-painted l x y (i + n) 1 new d .0, f)
 
-  pub row-more : (l t t′ : List ℕ) (x y w j : ℕ) (new : ℕ → ℕ → ℕ) → Dots new
-      → t ≡ painted b h l x y w j new → t′ ≡ painted b h t x (y + j) w 1 (λ u _. new u j)
+  pub dot-more : (l t t′ : List ℕ) (x y k v : ℕ) (new : ℕ → ℕ → ℕ) → Dots new
+      → t ≡ painted b h l x y k 1 new → v ≡ new k 0 → t′ ≡ painted b h t (x + k) y 1 1 (λ _ _. v)
+      → (length t′ ≡ h * b) × (t′ ≡ painted b h l x y (k + 1) 1 new)
+  dot-more l t t′ x y k v new d e q =
+      part-more l t t′ x y k 1 new (λ _ _. v) d (λ u hu. let f : k + u ≡ k = omega arith in rw (q, f)) e
+
+  pub byte-more : (l t t′ : List ℕ) (x y k i : ℕ) (f : ℕ → ℕ) → ((u : ℕ) → f u < 2)
+      → t ≡ painted b h l x y (8 * k) 1 (λ u _. f (i + u)) → (Rows b h t → t′ ≡ painted b h t (x + 8 * k) y 8 1 (λ u _. f (i + 8 * k + u)))
+      → (length t′ ≡ h * b) × (t′ ≡ painted b h l x y (8 * (k + 1)) 1 (λ u _. f (i + u)))
+  byte-more l t t′ x y k i f d e r =
+      let new : ℕ → ℕ → ℕ = λ u _. f (i + u) in
+      let dots : Dots new = λ u _. d (i + u) in
+      let n : 8 * (k + 1) ≡ 8 * k + 8 = omega arith in
+      rw n (part-more l t t′ x y (8 * k) 8 new (λ u _. f (i + 8 * k + u)) dots (λ u hu. ap f (add-assoc i (8 * k) u)) e
+      (r (rw e (rows-painted l x y (8 * k) 1 new dots))))
+
+  -- a row painted in three parts, the second from dot i on and the third from dot k on
+  pub row-parts : (l t₁ t₂ t₃ : List ℕ) (x y i n k w : ℕ) (f : ℕ → ℕ) → ((u : ℕ) → f u < 2) → k ≡ i + n → k ≤ w
+      → t₁ ≡ painted b h l x y i 1 (λ u _. f (0 + u)) → t₂ ≡ painted b h t₁ (x + i) y n 1 (λ u _. f (i + u))
+      → t₃ ≡ painted b h t₂ (x + k) y (w - k) 1 (λ u _. f (k + u)) → t₃ ≡ painted b h l x y w 1 (λ u _. f u)
+  row-parts l t₁ t₂ t₃ x y i n k w f d q m e₁ e₂ e₃ =
+      let new : ℕ → ℕ → ℕ = λ u _. f u in
+      let dots : Dots new = λ u _. d u in
+      let p₁ : t₁ ≡ painted b h l x y i 1 new = simp zero-add at e₁ in
+      let p₂ : t₂ ≡ painted b h l x y k 1 new = rw q (part-more l t₁ t₂ x y i n new (λ u _. f (i + u)) dots (λ u _. refl) p₁ e₂ .1) in
+      let z : k + (w - k) ≡ w = omega arith in
+      rw z at (part-more l t₂ t₃ x y k (w - k) new (λ u _. f (k + u)) dots (λ u _. refl) p₂ e₃ .1)
+
+  pub row-more : (l t t′ : List ℕ) (x y w j : ℕ) (new row : ℕ → ℕ → ℕ) → Dots new → ((u : ℕ) → u < w → row u 0 ≡ new u j)
+      → t ≡ painted b h l x y w j new → t′ ≡ painted b h t x (y + j) w 1 row
       → (length t′ ≡ h * b) × (t′ ≡ painted b h l x y w (j + 1) new)
-  row-more l t t′ x y w j new d e r =
-      let f : t′ ≡ painted b h l x y w (j + 1) new = r ∙ rw e (painted-row l x y w j new d) in
+  row-more l t t′ x y w j new row d same e r =
+      let f : t′ ≡ painted b h l x y w (j + 1) new = r ∙ rw e (painted-row l x y w j new row d same) in
       (ap length f ∙ rows-painted l x y w (j + 1) new d .0, f)
+
+  -- a row painted from its first dot to its last has new bytes
+  row-whole : (l : List ℕ) → Rows b h l → (y : ℕ) → y < h → (row : List ℕ) → Bytes row → length row ≡ b
+      → painted b h l 0 y (8 * b) 1 (λ u _. rowDot row u) ≡ rawOf b h (overlayAt (y * b) row (pictureOf b h l))
+  unfolding painted overdrawn
+  row-whole l r y hy row d e =
+      let q : Rows b h (pictureOf b h l) = rows-picture l r in
+      ap (rawOf b h) (sym (set-row b h pos (pictureOf b h l) (q .1) (q .0) row d e y hy))
+
+-- ---- rows of any length, of no bytes too
+
+-- all slots with rows of no bytes are the same
+no-bytes : (b h : ℕ) → (0 < b → ⊥) → (l m : List ℕ) → length l ≡ h * b → length m ≡ h * b → l ≡ m
+no-bytes b h n l m p q =
+    let z : b ≡ 0 = omega arith in
+    let e : h * 0 ≡ 0 = omega arith in
+    let f : length l ≡ 0 = p ∙ ap (λ (c : ℕ). h * c) z ∙ e in
+    ext-getD 0 l m (p ∙ sym q) (λ k k-lt. absurd (omega arith))
+
+length-painted : (b h : ℕ) (l : List ℕ) (x y w k : ℕ) (new : ℕ → ℕ → ℕ) → length (painted b h l x y w k new) ≡ h * b
+unfolding painted overdrawn draw
+length-painted b h l x y w k new =
+    length-raw b h (overdrawn b h (pictureOf b h l) x y w k new) (length-tabulate (h * b) _)
+
+-- an empty rectangle changes nothing
+pub none-painted : (b h : ℕ) (l : List ℕ) → Rows b h l → (x y w k : ℕ) (new : ℕ → ℕ → ℕ) → ((u v : ℕ) → Inside x y w k u v → ⊥)
+    → l ≡ painted b h l x y w k new
+none-painted b h l r x y w k new z =
+    elim (decLt 0 b) [
+      | yes pos ↦ painted-none b h pos l r x y w k new z
+      | no n ↦ no-bytes b h n l (painted b h l x y w k new) (r .0) (length-painted b h l x y w k new)
+    ]
+
+-- a row painted from its first dot to its last is a row replaced
+pub row-put : (b h : ℕ) (l : List ℕ) → Rows b h l → (y : ℕ) → y < h → (rows : List ℕ) → Bytes rows → (at : ℕ) → at + b ≤ length rows
+    → (l′ : List ℕ) → l′ ≡ painted b h l 0 y (8 * b) 1 (λ u _. rowDot (take (at + b - at) (drop at rows)) u)
+    → l′ ≡ rawOf b h (overlayAt (y * b) (take b (drop at rows)) (pictureOf b h l))
+row-put b h l r y hy rows d at fits l′ e = q ∙ go (decLt 0 b)
+  where
+    row : List ℕ
+    row = take b (drop at rows)
+
+    long : length row ≡ b
+    long = part-length at b rows fits
+
+    whole : List ℕ
+    whole = painted b h l 0 y (8 * b) 1 (λ u _. rowDot row u)
+
+    q : l′ ≡ whole
+    q = rw (add-sub-cancel-left at b) at e
+
+    within : y * b + length row ≤ length (pictureOf b h l)
+    within = omega (arith, more-rows y h b hy, long, length-picture b h l (r .0))
+
+    go : Dec (0 < b) → whole ≡ rawOf b h (overlayAt (y * b) row (pictureOf b h l))
+    go (yes pos) = row-whole b h pos l r y hy row (bytes-take b (drop at rows) (bytes-drop at rows d)) long
+    go (no n) =
+        no-bytes b h n whole (rawOf b h (overlayAt (y * b) row (pictureOf b h l))) (length-painted b h l 0 y (8 * b) 1 (λ u _. rowDot row u))
+        (length-raw b h (overlayAt (y * b) row (pictureOf b h l)) (length-overlayAt (y * b) (pictureOf b h l) row within ∙ length-picture b h l (r .0)))
+
+-- row j of n rows of b bytes, lent as a part of them
+pub row-ends : (j n b : ℕ) → j < n → (b ≤ (j + 1) * b) × ((j + 1) * b ≤ n * b)
+row-ends j n b h =
+    let m : (j + 1) * b ≡ j * b + b = rw (add-one, suc-mul) in
+    (omega arith, omega (arith, more-rows j n b h))
+
+pub row-lent : (b : ℕ) (rows : List ℕ) (j u : ℕ) → u < 8 * b
+    → rowDot (take ((j + 1) * b - ((j + 1) * b - b)) (drop ((j + 1) * b - b) rows)) u ≡ dot b rows u j
+row-lent b rows j u h =
+    let m : (j + 1) * b ≡ j * b + b = rw (add-one, suc-mul) in
+    let e : j * b + b - b ≡ j * b = omega arith in
+    let f : j * b + b - j * b ≡ b = omega arith in
+    rw (m, e, f) (dot-row b rows u j h)
 
 -- ---- the slots of the memory
 

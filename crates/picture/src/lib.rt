@@ -1,12 +1,13 @@
 // Painting on the slots of the lent memory. A slot has h rows of b bytes.
 ghost use mathlib.Core.Path.{_≡_};
-ghost use Prim.Native.Nat.{_+_, _-_, _*_, _/_, _<_, _≤_};
+ghost use Prim.Native.Nat.{_+_, _-_, _*_, _/_, _%_, _<_, _≤_};
 ghost use mathlib.Core.Bool.{true};
 ghost use lib.Dec.{leb};
 ghost use lib.ListN.{length, take, drop};
 ghost use Rattle.lists.specs.Lists.{overlayAt};
 ghost use Rattle.lists.specs.Rules.{allBelow, firstOf};
-ghost use Rattle.panel.specs.Dots.{dot};
+ghost use Rattle.panel.specs.Dots.{rowDot, dot};
+ghost use Rattle.picture.specs.Pictures.{packDots};
 ghost use Rattle.picture.specs.Slots.{pictureOf, rawOf, pictureRow, painted};
 ghost use Rattle.picture.specs.Regions.{
   regionGood,
@@ -16,13 +17,14 @@ ghost use Rattle.picture.specs.Regions.{
   regionCases,
   withRegion,
 };
+ghost use Rattle.picture.specs.Facts.{FillNoByte};
 
-// Dot x of row y, in rows of b bytes.
-fn get_dot(b: usize, bytes: &[u8], x: usize, y: usize) -> u8
-    requires { ⌜ y * b + x / 8 < length (now bytes) ⌝ }
-    ensures { λ r. ⌜ r ≡ dot b (now (bytes .entry)) x y ⌝ }
+// Dot x of a row.
+fn get_dot(row: &[u8], x: usize) -> u8
+    requires { ⌜ x / 8 < length (now row) ⌝ }
+    ensures { λ r. ⌜ r ≡ rowDot (now (row .entry)) x ⌝ }
 {
-    bytes[y * b + x / 8] >> (7 - x % 8) & 1
+    row[x / 8] >> (7 - x % 8) & 1
 }
 
 // Sets dot x of row y of a slot.
@@ -39,28 +41,103 @@ fn set_dot(b: usize, h: usize, raw: &mut [u8], x: usize, y: usize, v: u8)
     }
 }
 
-// Paints the first `width` dots of row j of `rows`, which have rb bytes each, on a slot from dot x of row y on.
-fn paint_row(
+// Paints n dots of a row, from its dot i on, on a slot from dot x of row y on: each dot by itself.
+pub fn paint_dots(
     b: usize,
     h: usize,
     raw: &mut [u8],
     x: usize,
     y: usize,
-    width: usize,
-    rb: usize,
-    rows: &[u8],
-    j: usize,
+    n: usize,
+    row: &[u8],
+    i: usize,
 )
-    requires { ⌜ (length (now raw) ≡ h * b) × (x + width ≤ 8 * b) × (y < h) × (width ≤ 8 * rb)
-        × (j * rb + rb ≤ length (now rows)) × (0 < b) × (b ≤ 33) ⌝ }
+    requires { ⌜ (length (now raw) ≡ h * b) × (x + n ≤ 8 * b) × (y < h) × (i + n ≤ 8 * length (now row))
+        × (b ≤ 33) × (i ≤ 264) ⌝ }
     ensures { λ _. ⌜ now (raw .exit)
-        ≡ painted b h (now (raw .entry)) x y width 1 (λ u _. dot rb (now (rows .entry)) u j) ⌝ }
+        ≡ painted b h (now (raw .entry)) x y n 1 (λ u _. rowDot (now (row .entry)) (i + u)) ⌝ }
 {
-    let mut i = 0;
-    while i < width {
-        set_dot(b, h, raw, x + i, y, get_dot(rb, rows, i, j));
-        i += 1;
+    let mut k = 0;
+    while k < n {
+        set_dot(b, h, raw, x + k, y, get_dot(row, i + k));
+        k += 1;
     }
+}
+
+// Paints a ragged edge: `paint_dots`, for dots that fill no byte of the slot.
+fn paint_edge(
+    b: usize,
+    h: usize,
+    raw: &mut [u8],
+    x: usize,
+    y: usize,
+    n: usize,
+    row: &[u8],
+    i: usize,
+)
+    requires { ⌜ (length (now raw) ≡ h * b) × (x + n ≤ 8 * b) × (y < h) × (i + n ≤ 8 * length (now row))
+        × (b ≤ 33) × (i ≤ 264) × FillNoByte x n ⌝ }
+    ensures { λ _. ⌜ now (raw .exit)
+        ≡ painted b h (now (raw .entry)) x y n 1 (λ u _. rowDot (now (row .entry)) (i + u)) ⌝ }
+{
+    paint_dots(b, h, raw, x, y, n, row, i);
+}
+
+// The byte of the eight dots of a row from dot i on, which lie in one byte of it or run from one into the next.
+fn eight_dots(row: &[u8], i: usize) -> u8
+    requires { ⌜ i + 8 ≤ 8 * length (now row) ⌝ }
+    ensures { λ r. ⌜ r ≡ packDots (λ u. rowDot (now (row .entry)) (i + u)) ⌝ }
+{
+    let at = i / 8;
+    let shift = i % 8;
+    if shift == 0 {
+        return row[at];
+    }
+    row[at] << shift | row[at + 1] >> (8 - shift)
+}
+
+// Paints 8n dots as `paint_dots` does, where x is a multiple of 8: each byte of the slot at once.
+fn paint_bytes(
+    b: usize,
+    h: usize,
+    raw: &mut [u8],
+    x: usize,
+    y: usize,
+    n: usize,
+    row: &[u8],
+    i: usize,
+)
+    requires { ⌜ (length (now raw) ≡ h * b) × (x + 8 * n ≤ 8 * b) × (y < h) × (i + 8 * n ≤ 8 * length (now row))
+        × (b ≤ 33) × (i ≤ 264) × (x % 8 ≡ 0) ⌝ }
+    ensures { λ _. ⌜ now (raw .exit)
+        ≡ painted b h (now (raw .entry)) x y (8 * n) 1 (λ u _. rowDot (now (row .entry)) (i + u)) ⌝ }
+{
+    let at = y * b + x / 8;
+    let mut k = 0;
+    while k < n {
+        raw[at + k] = eight_dots(row, i + 8 * k);
+        k += 1;
+    }
+}
+
+// Paints the first `width` dots of a row on a slot from dot x of row y on. Bytes of the slot that the dots fill are written whole, and
+// only the ragged edges before and after them go by dots.
+fn paint_row(b: usize, h: usize, raw: &mut [u8], x: usize, y: usize, width: usize, row: &[u8])
+    requires { ⌜ (length (now raw) ≡ h * b) × (x + width ≤ 8 * b) × (y < h) × (width ≤ 8 * length (now row))
+        × (b ≤ 33) ⌝ }
+    ensures { λ _. ⌜ now (raw .exit)
+        ≡ painted b h (now (raw .entry)) x y width 1 (λ u _. rowDot (now (row .entry)) u) ⌝ }
+{
+    let left = (8 - x % 8) % 8;
+    if width < left + 8 {
+        paint_edge(b, h, raw, x, y, width, row, 0);
+        return;
+    }
+    let n = (width - left) / 8;
+    let right = left + 8 * n;
+    paint_edge(b, h, raw, x, y, left, row, 0);
+    paint_bytes(b, h, raw, x + left, y, n, row, left);
+    paint_edge(b, h, raw, x + right, y, width - right, row, right);
 }
 
 // Paints `height` rows of rb bytes on a slot, at x, y.
@@ -82,7 +159,8 @@ fn paint_rows(
 {
     let mut j = 0;
     while j < height {
-        paint_row(b, h, raw, x, y + j, width, rb, rows, j);
+        let end = (j + 1) * rb;
+        paint_row(b, h, raw, x, y + j, width, &rows[end - rb..end]);
         j += 1;
     }
 }
@@ -105,7 +183,7 @@ pub fn put_row(b: usize, h: usize, raw: &mut [u8], y: usize, rows: &[u8], at: us
         ≡ rawOf b h (overlayAt (y * b) (take b (drop at (now (rows .entry)))) (pictureOf b h (now (raw .entry)))) ⌝ }
 {
     let end = at + b;
-    lists::put_at(raw, y * b, &rows[at..end]);
+    paint_row(b, h, raw, 0, y, 8 * b, &rows[at..end]);
 }
 
 // Whether `size` dots from dot `from` on end by dot `limit`. The sum is a whole number: 64 bits hold it on any machine.

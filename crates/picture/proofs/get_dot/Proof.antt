@@ -2,15 +2,9 @@
 -- Assumes nothing.
 use borrow.Author.Needs.{needs}
 use lib.Bits.{and-mask}
-use Rattle.panel.specs.Dots.{dot}
+use Rattle.panel.specs.Dots.{rowDot}
 use Rattle.picture.proofs.get_dot.Statement.{statement}
 use Rattle.picture.proofs.get_dot.Tie as tie
-
-mul-result : tie.Need-mul-result
-mul-result c = search needs
-
-add-result : tie.Need-add-result
-add-result c = search needs
 
 shared-slice-read-result : tie.Need-shared-slice-read-result
 shared-slice-read-result c = search needs
@@ -25,8 +19,8 @@ shr-result : tie.Need-shr-result
 shr-result c = search needs
 
 returns : tie.Need-returns
-unfolding dot
+unfolding rowDot
 returns c = and-mask _ 1
 
 pub get-dot-spec : {M : Type 1} → statement M
-get-dot-spec = tie.close (tie.spec mul-result add-result shared-slice-read-result sub-result cast-result shr-result returns)
+get-dot-spec = tie.close (tie.spec shared-slice-read-result sub-result cast-result shr-result returns)

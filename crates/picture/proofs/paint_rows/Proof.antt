@@ -4,12 +4,11 @@ use mathlib.Core.Path.{_≡_}
 use Prim.Native.Nat.{_+_, _-_, _*_, _≤_}
 use native.Mathlib.Omega.{arith}
 use borrow.Author.Needs.{needs}
-use lib.ListN.{length}
+use lib.ListN.{length, length-take, length-drop}
 use Rattle.panel.specs.Dots.{dot}
 use Rattle.panel.proofs.Dots.{dot-lt}
 use Rattle.picture.specs.Slots.{painted}
-use Rattle.lists.proofs.Parts.{more-rows}
-use Rattle.picture.proofs.Slots.{painted-none, row-more}
+use Rattle.picture.proofs.Slots.{none-painted, row-more, row-ends, row-lent}
 use Rattle.picture.proofs.paint_rows.Statement.{statement}
 use Rattle.picture.proofs.paint_rows.Tie as tie
 
@@ -26,19 +25,46 @@ loop-holds c =
     let a = s .args in (
       omega arith,
       s .pre .0,
-      painted-none (a .b) (a .h) (omega arith) (a .raw .now) (s .pre .0, λ k. c .before .slice-known .given k .fits)
+      none-painted (a .b) (a .h) (a .raw .now) (s .pre .0, λ k. c .before .slice-known .given k .fits)
           (a .x) (a .y) (a .width) 0 (dot (a .rb) (a .rows .now)) (λ u v i. omega arith),
     )
+
+add-end : tie.Need-add-end Inv-loop μ-loop
+add-end c = search needs
+
+-- row j ends within the rows
+ends : (c : tie.In-loop Inv-loop μ-loop) →
+    let a = c .before .before .before .before .args in
+    let end = (c .before .loop .j + 1) * a .rb in
+    (a .rb ≤ end) × (end ≤ length (a .rows .now))
+ends c =
+    let a = c .before .before .before .before .args in
+    let e = row-ends (c .before .loop .j) (a .height) (a .rb) (omega arith) in
+    (e .0, omega (arith, e .1))
+
+mul-end : tie.Need-mul-end Inv-loop μ-loop
+mul-end c = omega (arith, ends c .1)
 
 add-paint-row : tie.Need-add-paint-row Inv-loop μ-loop
 add-paint-row c = search needs
 
+sub-paint-row : tie.Need-sub-paint-row Inv-loop μ-loop
+sub-paint-row c = omega (arith, ends (c .before) .0)
+
+sub-paint-row-2 : tie.Need-sub-paint-row-2 Inv-loop μ-loop
+sub-paint-row-2 c = search needs
+
+part-paint-row-start : tie.Need-part-paint-row-start Inv-loop μ-loop
+part-paint-row-start c = omega arith
+
+part-paint-row-end : tie.Need-part-paint-row-end Inv-loop μ-loop
+part-paint-row-end c = ends (c .before) .1
+
 paint-row-requires : tie.Need-paint-row-requires Inv-loop μ-loop
 paint-row-requires c κs =
-    let a = c .before .before .before .before .before .args in
-    let l = c .before .before .loop in
-    let r : l .j * a .rb + a .rb ≤ a .height * a .rb = more-rows (l .j) (a .height) (a .rb) (omega arith) in
-    (l .inv .1, omega arith, omega arith, omega arith, omega arith, omega arith, omega arith)
+    let l = c .before .before .before .loop in
+    let e = ends (c .before .before) in
+    (l .inv .1, omega arith, omega arith, simp (length-take, length-drop) (omega (arith, e .0, e .1)), omega arith)
 
 add-j : tie.Need-add-j Inv-loop μ-loop
 add-j c = search needs
@@ -48,11 +74,12 @@ loop-less c = search needs
 
 loop-again : tie.Need-loop-again Inv-loop μ-loop
 loop-again c =
-    let s = c .before .before .before .before .before .before .before .before in
+    let s = (c .before .before .before .before .before .before .before .before .before) in
     let a = s .args in
-    let l = c .before .before .before .before .before .loop in
+    let l = c .before .before .before .before .before .before .loop in
     let e = row-more (a .b) (a .h) (omega (arith, s .pre)) (a .raw .now) (l .raw) _ (a .x) (a .y) (a .width) (l .j)
-    (dot (a .rb) (a .rows .now)) (dot-lt (a .rb) (a .rows .now)) (l .inv .2) (c .before .before .paint-row .ensures) in
+    (dot (a .rb) (a .rows .now)) _ (dot-lt (a .rb) (a .rows .now)) (λ u u-lt. row-lent (a .rb) (a .rows .now) (l .j) u (omega arith))
+    (l .inv .2) (c .before .before .paint-row .ensures) in
     (omega arith, e .0, e .1)
 
 same-length : tie.Need-same-length Inv-loop μ-loop
@@ -71,7 +98,13 @@ paint-rows-spec =
     Inv-loop
     μ-loop
     loop-holds
+    add-end
+    mul-end
     add-paint-row
+    sub-paint-row
+    sub-paint-row-2
+    part-paint-row-start
+    part-paint-row-end
     paint-row-requires
     add-j
     loop-less

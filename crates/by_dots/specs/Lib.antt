@@ -1,0 +1,2 @@
+-- A region on a picture that is lent by itself.
+pub mod Regions
