@@ -58,6 +58,12 @@ tests: build
 	@echo "== the C example of a finish panel"
 	$(CC) $(CFLAGS) -Iinclude -o $(OUT)/finish_example examples/finish.c $(LIBRARY)
 	$(OUT)/finish_example | diff tests/finish/example.expected -
+	@echo "== the hall display's C calls against an independent implementation"
+	$(CC) $(CFLAGS) -Iinclude -o $(OUT)/hall tests/hall/compare.c tests/hall/reference.c tests/hall/printed.c $(LIBRARY)
+	$(OUT)/hall
+	@echo "== the C example of the hall display"
+	$(CC) $(CFLAGS) -Iinclude -o $(OUT)/hall_example examples/hall.c $(LIBRARY)
+	$(OUT)/hall_example | diff tests/hall/example.expected -
 	@echo "== whole updates of the update loop and regions against plain C"
 	$(PYTHON) -m bench.run --compare
 	@echo "== the listing program against an independent implementation"

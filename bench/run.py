@@ -2,7 +2,8 @@
 docs/BENCHMARKS.md.
 
 Run from the repository's root by `make bench`, which builds the libraries. `--compare` only checks that the driver and
-plain C put the same bytes out in a whole update of each panel, paint the same regions and give out the same for a finish panel.
+plain C put the same bytes out in a whole update of each panel, paint the same regions, and give out the same for a finish panel
+and the hall display.
 """
 import os
 import re
@@ -16,7 +17,7 @@ from simulator.panel import PANELS
 OUT = "target/bench"
 LIBRARIES = "target/staticlib"
 COMPILE = ["gcc", "-std=c99", "-O3", "-Wall", "-Wextra", "-pedantic", "-Iinclude"]
-LINE_ROUNDS, UPDATE_ROUNDS, FINISH_ROUNDS, REGION_ROUNDS = 60, 100, 60, 200
+LINE_ROUNDS, UPDATE_ROUNDS, FINISH_ROUNDS, HALL_ROUNDS, REGION_ROUNDS = 60, 100, 60, 60, 200
 REGION_LIMITS = {"whole": 1 / 3, "part": 1 / 4}  # at most this much of the time of the loop over the region's dots
 BUS_HZ = 12_000_000
 
@@ -24,10 +25,11 @@ BUS_HZ = 12_000_000
 def build():
     os.makedirs(OUT, exist_ok=True)
     # files of their own, so that the compiler does not see the calls it is timed by
-    for name in ("plain", "plain_store", "plain_rows", "plain_finish"):
+    for name in ("plain", "plain_store", "plain_rows", "plain_finish", "plain_hall"):
         subprocess.run(COMPILE + ["-c", f"bench/{name}.c", "-o", f"{OUT}/{name}.o"], check=True)
     subprocess.run(COMPILE + ["bench/line.c", f"{OUT}/plain.o", f"{LIBRARIES}/libstart_board.a", "-o", f"{OUT}/line"], check=True)
     subprocess.run(COMPILE + ["bench/finish.c", f"{OUT}/plain_finish.o", f"{LIBRARIES}/libstart_board.a", "-o", f"{OUT}/finish"], check=True)
+    subprocess.run(COMPILE + ["bench/hall.c", f"{OUT}/plain_hall.o", f"{LIBRARIES}/libstart_board.a", "-o", f"{OUT}/hall"], check=True)
     subprocess.run(COMPILE + ["bench/update.c", f"{OUT}/plain.o", f"{OUT}/plain_store.o", f"{OUT}/plain_rows.o",
                               f"{LIBRARIES}/libupdate_loop.a", "-o", f"{OUT}/update"], check=True)
     subprocess.run(COMPILE + ["bench/region.c", f"{OUT}/plain_rows.o", f"{LIBRARIES}/libby_dots.a", "-o", f"{OUT}/region"], check=True)
@@ -57,6 +59,8 @@ def compare():
           f"{found['refused']:,.0f} refused alike")
     numbers([f"{OUT}/finish", "0"])
     print("finish panel: the driver and plain C give out the same 2,073 things")
+    numbers([f"{OUT}/hall", "0"])
+    print("hall display: the driver and plain C give the same 957 commands and the same checksum")
 
 
 def profile(panel):
@@ -125,6 +129,23 @@ def finish_rows():
     ]
 
 
+def hall_parts():
+    """Commands wherever they stand in an upload, both checksums, and how the two compare."""
+    found = numbers([f"{OUT}/hall", str(HALL_ROUNDS)])
+
+    def timed(work, name, unit, scale):
+        return row(work, found[f"{name}_library"], found[f"{name}_plain"], unit, scale)
+
+    rows = [
+        timed("the first command, with the header", "first", "ns", 1),
+        timed("a command in the middle, number 478", "middle", "ns", 1),
+        timed("the last full command, number 955", "late", "ns", 1),
+        timed("the checksum as printed, 240,016 bytes", "printed", "us", 1e3),
+        timed("the checksum by the table", "table", "us", 1e3),
+    ]
+    return rows, f"{found['table_library'] / found['printed_library']:.2f}"
+
+
 def wire_rows(panel, line, store):
     """The time of the processor over the time that the same bytes take on the bus."""
     lines = 4 * panel.frames * panel.height
@@ -146,6 +167,7 @@ def processor():
 
 def document(panel):
     rows, line, store = tables(panel)
+    hall, hall_ratio = hall_parts()
     with open("bench/BENCHMARKS.template.md", encoding="utf-8") as template:
         text = template.read()
     compiler = subprocess.run(["gcc", "--version"], stdout=subprocess.PIPE, text=True).stdout.splitlines()[0]
@@ -158,6 +180,8 @@ def document(panel):
         "REGIONS": "\n".join(region_rows()),
         "FINISH_ROUNDS": str(FINISH_ROUNDS),
         "FINISH": "\n".join(finish_rows()),
+        "HALL_ROUNDS": str(HALL_ROUNDS), "HALL_TABLE": hall_ratio,
+        "HALL": "\n".join(hall),
         "WIRE": "\n".join(wire_rows(panel, line, store)),
         "PROFILE": "\n".join(f"| `{name}` | {count:,} | {share} % |" for name, count, share in profile(panel))
                    or "| valgrind is not installed here | | |",

@@ -1,12 +1,13 @@
 /*
- * The start board driver's calls for C firmware: the line builder, the two file checks, and the updates of
- * the finish arch panels. docs/FORMATS.md shows a line, a settings file and a bitmap byte by byte.
+ * The start board driver's calls for C firmware: the line builder, the two file checks, the updates of the
+ * finish arch panels, and the uploads to the hall display. docs/FORMATS.md shows a line, a settings file, a
+ * bitmap and an upload command byte by byte.
  *
  * Link with libstart_board.a, which is built for x86-64 Linux. The calls keep no state, take memory
  * from nobody but the caller, never stop and never write outside the bytes they report. A refusal
  * changes no byte. Three things are asked of the caller: that a pointer with a length n may be read
- * (out: written) for n bytes, that a null pointer has length 0, which is an empty slice, and that the
- * dots and out of a line do not overlap.
+ * (out, memory: written) for n bytes, that a null pointer has length 0, which is an empty slice, and that
+ * what a call reads does not overlap what it writes.
  */
 #ifndef START_BOARD_H
 #define START_BOARD_H
@@ -41,12 +42,17 @@ extern "C" {
 #define EPD_OK 0u
 #define EPD_BAD_SETTINGS 2u     /* the settings file breaks a rule */
 #define EPD_BAD_BITMAP 4u       /* the bitmap breaks a rule */
-#define EPD_SHORT_OUTPUT 11u    /* the output is shorter than the line or the write */
+#define EPD_SHORT_OUTPUT 11u    /* the output is shorter than the line, the write, the header or the command */
 #define EPD_OUT_OF_RANGE 14u    /* panel, stage or row out of range, or dots not one row */
 #define EPD_BAD_OTP_LENGTH 18u  /* the OTP memory is not 128 bytes */
 #define EPD_BAD_SOFT_START 19u  /* a REPEAT or DELAY byte of the OTP memory has bit 7 clear */
 #define EPD_BAD_TEMPERATURE 20u /* the temperature is out of the mode's range */
 #define EPD_BAD_PICTURE 21u     /* a picture of neither size, or two of different size */
+#define EPD_BAD_DISPLAY 24u     /* no such panel of the hall display, or a depth that is not 1 or 2 */
+#define EPD_BAD_IMAGE 25u       /* the image is not as long as the panel and the depth ask */
+#define EPD_BAD_SLOT 26u        /* the slot is over 255 */
+#define EPD_BAD_COMMAND 27u     /* no upload command to the slot, or not as long as it says */
+#define EPD_OVERRUN 28u         /* the data does not fit into the slot from the data pointer on */
 
 /*
  * What a call answers that gives out one of several things: a word, with the answer's kind in the top byte
@@ -131,6 +137,77 @@ uint32_t epd_normal_update(const uint8_t *otp, size_t otp_len, int32_t temperatu
 uint32_t epd_fast_update(const uint8_t *otp, size_t otp_len, int32_t temperature, const uint8_t *picture,
                          size_t picture_len, const uint8_t *shown, size_t shown_len, uint32_t given,
                          uint8_t *out, size_t out_len);
+
+/* ---- The hall display ---- */
+
+/* Panels, by the code in their header. */
+#define EPD_HALL_13_3 0x3Eu /* 13.3 inch, 1600 x 1200 */
+#define EPD_HALL_31_2 0x3Fu /* 31.2 inch, 1440 x 2560 */
+
+/* The bytes of an image of one bit a dot (of two bits, twice as many), of the header, and of an output that
+ * has room for every command. */
+#define EPD_HALL_BYTES_13_3 240000u
+#define EPD_HALL_BYTES_31_2 460800u
+#define EPD_HALL_HEADER_BYTES 16u
+#define EPD_HALL_OUT_BYTES 255u
+
+/*
+ * Puts out the header of an image: 16 bytes. It goes out before the image; epd_hall_command does that by itself.
+ *
+ * panel  a panel's code
+ * depth  bits of a dot, 1 or 2
+ *
+ * Answers EPD_OK, or EPD_BAD_DISPLAY or EPD_SHORT_OUTPUT, the first that applies in that order.
+ */
+uint8_t epd_hall_header(uint32_t panel, uint32_t depth, uint8_t *out, size_t out_len);
+
+/* The kinds of answers of epd_hall_command. */
+#define EPD_HALL_COMMAND 1u /* the value is the length of the command put out */
+#define EPD_HALL_NO_MORE 2u /* there is no command of that number */
+
+/*
+ * The command of one number of an upload: 20 01, the slot, the length of its data, and the data. Header and
+ * image are cut into 251 bytes for each command but the last. Call with 0, 1, 2 and so on until the answer's
+ * kind is EPD_HALL_NO_MORE; commands can also be asked for in any other order, or again.
+ *
+ * panel   a panel's code
+ * depth   bits of a dot, 1 or 2
+ * image   its bytes in the panel's pixel data format, without the header
+ * slot    the display's framebuffer slot, 0 to 255
+ * number  the command's number
+ * out     takes the command; bytes after it stay as they are
+ *
+ * Refused with EPD_BAD_DISPLAY, EPD_BAD_IMAGE, EPD_BAD_SLOT or, where there is a command that does not fit,
+ * EPD_SHORT_OUTPUT: the first that applies in that order.
+ */
+uint32_t epd_hall_command(uint32_t panel, uint32_t depth, const uint8_t *image, size_t image_len, uint32_t slot,
+                          uint32_t number, uint8_t *out, size_t out_len);
+
+/* The kind of an accepted answer of epd_hall_read. */
+#define EPD_HALL_DATA 1u /* the value is the length of the data: add it to the data pointer */
+
+/*
+ * Reads an upload command into a slot, as the display does.
+ *
+ * slot     the slot's number
+ * at       its data pointer, which the caller keeps: 0 at first, and 0 again to reset it
+ * command  the whole command
+ * memory   the slot's bytes; takes the data from `at` on
+ *
+ * Refused with EPD_BAD_SLOT, EPD_BAD_COMMAND or EPD_OVERRUN, the first that applies in that order.
+ */
+uint32_t epd_hall_read(uint32_t slot, size_t at, const uint8_t *command, size_t command_len, uint8_t *memory,
+                       size_t memory_len);
+
+/*
+ * The checksum of some bytes, from a start value on. Over header and image, from EPD_HALL_CHECKSUM_START, it is
+ * the display's own for a slot that holds them; the answer for some bytes is the start value for those after
+ * them. The first call looks a table up, which takes 1 KiB of stack; the second computes the checksum as the
+ * display's guide prints it. They always answer the same, and the first is faster.
+ */
+#define EPD_HALL_CHECKSUM_START 0x6363u
+uint16_t epd_hall_checksum(uint16_t start, const uint8_t *bytes, size_t len);
+uint16_t epd_hall_checksum_printed(uint16_t start, const uint8_t *bytes, size_t len);
 
 #ifdef __cplusplus
 }

@@ -1,6 +1,10 @@
--- `Tied` has the line builder and the two checks over the contracts as the source has them; `Reading` how a word is taken apart,
--- `FinishOrder` a whole update of a finish panel, `FinishTied` that update over the contracts.
+-- `Tied` has the line builder and the two checks over the contracts as the source has them.
 pub mod Tied
+-- `Reading` has how a word is taken apart, `HallWords` the hall display's answers. `FinishOrder` has a whole update of a finish panel and
+-- `HallOrder` a whole upload to the hall display; `FinishTied` and `HallTied` have them over the contracts as the source has them.
 pub mod Reading
 pub mod FinishOrder
 pub mod FinishTied
+pub mod HallWords
+pub mod HallOrder
+pub mod HallTied

@@ -1,0 +1,186 @@
+-- A whole upload: the commands that are given hold header and image, and reading them in order brings them back.
+-- Assumes nothing.
+use mathlib.Core.Path.{_≡_, refl, sym, ap, ap₂, _∙_}
+use mathlib.Core.Bool.{true}
+use mathlib.Core.List.{List, _++_}
+use Prim.Native.Nat.{ℕ, zero, suc, _+_, _*_, _≤_, _<_}
+use native.Mathlib.Nat.{add-assoc, zero-add}
+use native.Mathlib.Decide.{ℕ-discrete}
+use native.Mathlib.Omega.{arith}
+use borrow.Author.Tests.{eq-eqb, ne-eqb, le-leb, le-ltb}
+use lib.ListN.{length, take, length-append}
+use lib.Seq.{take-all, take-add, take-at}
+use Rattle.lists.specs.Lists.{overlay, overlayAt}
+use Rattle.lists.proofs.Lists.{overlayAt-none, length-overlayAt, overlayAt-next}
+use Rattle.lists.proofs.Rules.{none, keep, all-kept}
+use Rattle.hall_display.specs.Panels.{isDisplay, imageBytes}
+use Rattle.hall_display.specs.Commands.{dataOf, command, dataIn, commandCount}
+use Rattle.hall_display.specs.Upload.{putOut, uploadBytes, giving, uploading}
+use Rattle.hall_display.specs.Reading.{readerAt, reply, isUpload, reading}
+use Rattle.hall_display.specs.Order.{joined, readNext, readInOrder, imageCommands, Uploaded}
+use Rattle.hall_display.specs.declared.Answer.{Answer}
+use Rattle.hall_display.specs.declared.Answer.the-variants.{Command, NoMore}
+use Rattle.hall_display.specs.declared.Reader.{Reader}
+use Rattle.hall_display.specs.declared.Reply.{Reply}
+use Rattle.hall_display.proofs.Commands.{upload-length, data-full, data-some, data-none, data-most}
+
+-- ---- parts in order
+
+pub joined-cong : (n : ℕ) (f g : ℕ → List ℕ) → ((k : ℕ) → k < n → f k ≡ g k) → joined n f ≡ joined n g
+joined-cong zero f g e = refl
+joined-cong (suc n) f g e = ap₂ _++_ (joined-cong n f g (λ k h. e k (omega arith))) (e n (omega arith))
+
+pub read-cong : (n : ℕ) (f g : ℕ → List ℕ) (reader : Reader) (memory : List ℕ) → ((k : ℕ) → k < n → f k ≡ g k)
+    → readInOrder n f reader memory ≡ readInOrder n g reader memory
+read-cong zero f g reader memory e = refl
+read-cong (suc n) f g reader memory e =
+    ap₂ readNext (read-cong n f g reader memory (λ k h. e k (omega arith))) (e n (omega arith))
+
+-- a refusal is not passed
+pub not-refused : (before : Reply × List ℕ) (command : List ℕ) → readNext before command .0 .number ≡ 0 → before .0 .number ≡ 0
+not-refused before command e =
+    elim (ℕ-discrete (before .0 .number) 0) [
+      | yes z ↦ z
+      | no d ↦ rw (ne-eqb (before .0 .number) 0 d) at e
+    ]
+
+-- ---- bytes cut into data, over any bytes
+
+module _ (bytes : List ℕ) where
+  -- as many bytes as the commands so far hold
+  data-front : (n : ℕ) → joined n (λ k. dataOf k bytes) ≡ take (251 * n) bytes
+  data-front zero = refl
+  data-front (suc n) =
+      let e : 251 * suc n ≡ 251 * n + 251 = omega arith in
+      rw (data-front n, e) (sym (take-add (251 * n) 251 bytes))
+
+  -- all of them
+  pub data-joined : joined (commandCount (length bytes)) (λ k. dataOf k bytes) ≡ bytes
+  data-joined = data-front (commandCount (length bytes)) ∙ take-all (251 * commandCount (length bytes)) bytes (omega arith)
+
+-- ---- commands read in order, over any parts of 1 to 251 bytes
+
+module _ (slot : ℕ) (small : slot ≤ 255) where
+  upload-good : (body : List ℕ) → 1 ≤ length body → length body ≤ 251 → isUpload slot (command slot body) ≡ true
+  unfolding isUpload
+  upload-good body l h =
+      all-kept (keep refl (keep refl (keep (eq-eqb slot slot refl) (keep (le-leb 1 (length body) l)
+      (keep (le-leb (length body) 251 h) (keep (eq-eqb (length (command slot body)) (4 + length body) (omega arith)) none))))))
+
+  read-part : (at : ℕ) (body memory : List ℕ) → 1 ≤ length body → length body ≤ 251 → at + length body ≤ length memory
+      → reading (readerAt slot at) (command slot body) memory ≡ (reply 0 (readerAt slot (at + length body)), overlayAt at body memory)
+  unfolding reading
+  read-part at body memory l h room =
+      rw (le-ltb 255 slot small, upload-good body l h, le-ltb (length memory) (at + length body) room)
+
+  pub read-joined : (n : ℕ) (part : ℕ → List ℕ) (at : ℕ) (memory : List ℕ)
+      → ((k : ℕ) → k < n → 1 ≤ length (part k)) → ((k : ℕ) → k < n → length (part k) ≤ 251)
+      → at + length (joined n part) ≤ length memory
+      → readInOrder n (λ k. command slot (part k)) (readerAt slot at) memory
+      ≡ (reply 0 (readerAt slot (at + length (joined n part))), overlayAt at (joined n part) memory)
+  read-joined zero part at memory some most room =
+      let e : at + 0 ≡ at = omega arith in
+      rw (e, ← overlayAt-none at memory)
+  read-joined (suc n) part at memory some most room =
+      let front : List ℕ = joined n part in
+      let l : length (front ++ part n) ≡ length front + length (part n) = length-append front (part n) in
+      let fits : at + length front ≤ length memory = omega (arith, l) in
+      let before : length (overlayAt at front memory) ≡ length memory = length-overlayAt at memory front fits in
+      rw (read-joined n part at memory (λ k h. some k (omega arith)) (λ k h. most k (omega arith)) fits)
+      (read-part (at + length front) (part n) (overlayAt at front memory) (some n (omega arith)) (most n (omega arith)) (omega (arith, l))
+      ∙ rw (overlayAt-next at memory front (part n) (at + length front) refl fits, l, add-assoc))
+
+-- ---- the upload of an image
+
+module _ (panel depth : ℕ) (image : List ℕ) (slot : ℕ) (good : isDisplay panel depth ≡ true)
+    (exact : length image ≡ imageBytes panel depth) (small : slot ≤ 255) where
+  total : length (uploadBytes panel depth image) ≡ 16 + length image
+  total = upload-length panel depth image
+
+  accepted : (number : ℕ) (out : List ℕ)
+      → uploading panel depth image slot number out ≡ giving slot (dataOf number (uploadBytes panel depth image)) out
+  unfolding uploading
+  accepted number out = rw (good, eq-eqb (length image) (imageBytes panel depth) exact, le-ltb 255 slot small)
+
+  -- what a call gives
+  calls-give : (number : ℕ) (out : List ℕ) → number < imageCommands image → 255 ≤ length out
+      → uploading panel depth image slot number out
+      ≡ (
+        Command (4 + length (dataOf number (uploadBytes panel depth image))),
+        overlay (command slot (dataOf number (uploadBytes panel depth image))) out,
+      )
+  calls-give number out h room =
+      let bytes : List ℕ = uploadBytes panel depth image in
+      let l : 1 ≤ length (dataOf number bytes) = data-some bytes number (rw total h) in
+      let m : length (dataOf number bytes) ≤ 251 = data-most bytes number in
+      let some : length (dataOf number bytes) ≡ 0 → ⊥ = λ e. omega arith in
+      accepted number out
+      ∙ rw (ne-eqb (length (dataOf number bytes)) 0 some, le-ltb (length out) (4 + length (dataOf number bytes)) (omega arith))
+
+  calls-end : (number : ℕ) (out : List ℕ) → imageCommands image ≤ number → uploading panel depth image slot number out ≡ (NoMore, out)
+  calls-end number out h =
+      let bytes : List ℕ = uploadBytes panel depth image in
+      let none : length (dataOf number bytes) ≡ 0 = data-none bytes number (rw total h) in
+      accepted number out ∙ rw (eq-eqb (length (dataOf number bytes)) 0 none)
+
+  -- calls that keep the contract, each with 255 bytes or more lent, to the last command or past it
+  module _ (last : ℕ) (enough : imageCommands image ≤ last) (out : ℕ → List ℕ) (room : (k : ℕ) → k ≤ last → 255 ≤ length (out k))
+      (answer : ℕ → Answer) (after : ℕ → List ℕ)
+      (called : (k : ℕ) → k ≤ last → (answer k, after k) ≡ uploading panel depth image slot k (out k)) where
+    body : ℕ → List ℕ
+    body k = dataOf k (uploadBytes panel depth image)
+
+    gave : (k : ℕ) → k < imageCommands image
+        → _≡_ {A = Answer × List ℕ} (answer k, after k) (Command (4 + length (body k)), overlay (command slot (body k)) (out k))
+    unfolding body
+    gave k h = let l : k ≤ last = omega arith in called k l ∙ calls-give k (out k) h (room k l)
+
+    given : (k : ℕ) → k < imageCommands image → putOut (answer k) (after k) ≡ command slot (body k)
+    given k h =
+        ap (λ (c : Answer × List ℕ). putOut (c .0) (c .1)) (gave k h)
+        ∙ take-at (command slot (body k)) _ (4 + length (body k)) (omega arith)
+
+    in-data : (k : ℕ) → k < imageCommands image → dataIn (putOut (answer k) (after k)) ≡ body k
+    in-data k h = ap dataIn (given k h)
+
+    all-joined : joined (imageCommands image) body ≡ uploadBytes panel depth image
+    unfolding body
+    all-joined = rw total at (data-joined (uploadBytes panel depth image))
+
+    read-back : (memory : List ℕ) → 16 + length image ≤ length memory
+        → readInOrder (imageCommands image) (λ k. putOut (answer k) (after k)) (readerAt slot 0) memory
+        ≡ (reply 0 (readerAt slot (16 + length image)), overlay (uploadBytes panel depth image) memory)
+    unfolding body
+    read-back memory fits =
+        let bytes : List ℕ = uploadBytes panel depth image in
+        let n : ℕ = imageCommands image in
+        let l : length (joined n body) ≡ 16 + length image = ap length all-joined ∙ total in
+        read-cong n _ (λ k. command slot (body k)) (readerAt slot 0) memory given
+        ∙ read-joined slot small n body 0 memory (λ k h. data-some bytes k (rw total h)) (λ k h. data-most bytes k) (omega (arith, l))
+        ∙ rw (all-joined, zero-add) (ap (λ (at : ℕ). (reply 0 (readerAt slot at), overlay bytes memory)) total)
+
+    pub uploaded : Uploaded panel depth image slot last out answer after
+    unfolding body
+    uploaded =
+        let bytes : List ℕ = uploadBytes panel depth image in
+        record {
+          gives = λ k h.
+              let l : length (putOut (answer k) (after k)) ≡ 4 + length (body k) = ap length (given k h) ∙ omega arith in
+              ap (λ (c : Answer × List ℕ). c .0) (gave k h) ∙ ap Command (sym l);
+          ends = λ k h l.
+              let e : _≡_ {A = Answer × List ℕ} (answer k, after k) (NoMore, out k) = called k l ∙ calls-end k (out k) h in
+              (ap (λ (c : Answer × List ℕ). c .0) e, ap (λ (c : Answer × List ℕ). c .1) e);
+          full = λ k h. ap length (in-data k (omega arith)) ∙ data-full bytes k (rw total h);
+          some = λ k h. rw (in-data k h) (data-some bytes k (rw total h));
+          most = λ k h. rw (in-data k h) (data-most bytes k);
+          whole = joined-cong (imageCommands image) _ body in-data ∙ all-joined;
+          back = read-back;
+        }
+
+-- for every image, slot and outputs
+pub upload-whole : (panel depth : ℕ) (image : List ℕ) (slot : ℕ) → isDisplay panel depth ≡ true → length image ≡ imageBytes panel depth
+    → slot ≤ 255 → (last : ℕ) → imageCommands image ≤ last → (out : ℕ → List ℕ) → ((k : ℕ) → k ≤ last → 255 ≤ length (out k))
+    → Uploaded panel depth image slot last out (λ k. uploading panel depth image slot k (out k) .0)
+    (λ k. uploading panel depth image slot k (out k) .1)
+upload-whole panel depth image slot good exact small last enough out room =
+    uploaded panel depth image slot good exact small last enough out room _ _ (λ k l. refl)
