@@ -213,6 +213,16 @@ static uint32_t number_at(const uint8_t *file, size_t at)
     return file[at] | (uint32_t)file[at + 1] << 8 | (uint32_t)file[at + 2] << 16 | (uint32_t)file[at + 3] << 24;
 }
 
+enum palette { BLACK_FIRST, WHITE_FIRST, NEITHER };
+
+static enum palette palette_of(const uint8_t *file)
+{
+    uint32_t first = number_at(file, 54) & 0xFFFFFF, second = number_at(file, 58) & 0xFFFFFF;
+    if (first == 0 && second == 0xFFFFFF)
+        return BLACK_FIRST;
+    return first == 0xFFFFFF && second == 0 ? WHITE_FIRST : NEITHER;
+}
+
 static bool bitmap_good(const struct panel *panel, const uint8_t *file, size_t len)
 {
     uint32_t rows_len = panel->rows * panel->stride;
@@ -221,7 +231,16 @@ static bool bitmap_good(const struct panel *panel, const uint8_t *file, size_t l
            number_at(file, 18) == 8 * panel->row_bytes && number_at(file, 22) == panel->rows &&
            number_at(file, 26) == 0x00010001 && number_at(file, 30) == 0 &&
            (number_at(file, 34) == 0 || number_at(file, 34) == rows_len) &&
-           (number_at(file, 46) == 0 || number_at(file, 46) == 2);
+           (number_at(file, 46) == 0 || number_at(file, 46) == 2) && palette_of(file) != NEITHER;
+}
+
+static void put_row(uint8_t *restrict row, const uint8_t *restrict bytes, uint32_t n, bool turned)
+{
+    if (turned)
+        for (uint32_t i = 0; i < n; i++)
+            row[i] = (uint8_t)~bytes[i];
+    else
+        memcpy(row, bytes, n);
 }
 
 static uint8_t store_upload_bitmap(struct store *store, uint8_t *memory, size_t memory_len, uint32_t slot,
@@ -234,9 +253,10 @@ static uint8_t store_upload_bitmap(struct store *store, uint8_t *memory, size_t 
     if (!bitmap_good(panel, file, len))
         return 4;
     uint8_t *picture = memory + slot * picture_bytes(panel);
+    bool turned = palette_of(file) == WHITE_FIRST;
     for (uint32_t y = 0; y < panel->rows; y++)
-        memcpy(picture + y * panel->row_bytes, file + HEADER + (panel->rows - 1 - y) * panel->stride,
-               panel->row_bytes);
+        put_row(picture + y * panel->row_bytes, file + HEADER + (panel->rows - 1 - y) * panel->stride,
+                panel->row_bytes, turned);
     return 0;
 }
 

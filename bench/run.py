@@ -89,7 +89,8 @@ def tables(panel):
         row("one line, against plain C byte by byte", line["line_library"], line["line_bytes"], "ns", 1),
         row("a whole update: opening, upload, start, all polls", store["update_library"], store["update_plain"], "ms", 1e6),
         row("the same, against plain C that trusts its state", store["update_library"], store["update_trusting"], "ms", 1e6),
-        row("opening and a bitmap upload", store["bitmap_library"], store["bitmap_plain"], "us", 1e3),
+        row("opening and a bitmap upload, black first", store["bitmap_library"], store["bitmap_plain"], "us", 1e3),
+        row("the same picture with white first", store["negative_library"], store["negative_plain"], "us", 1e3),
         row("opening and the whole panel as one region", store["region_library"], store["region_plain"], "us", 1e3),
     ]
     return rows, line, store
@@ -112,6 +113,12 @@ def region_rows():
         timed("250 dots wide at x = 3, beside a loop over its dots", "part", "dots", ".4f"),
         timed("250 dots wide at x = 3, beside plain C for any region, by shifts and masks", "part", "plain", ".2f"),
     ]
+
+
+def white_over_black(store):
+    """An upload with white first over one with black first: with the opening before it, and with its time taken off."""
+    black, white, opening = (store[f"{name}_library"] for name in ("bitmap", "negative", "opening"))
+    return f"{white / black:.2f}", f"{(white - opening) / (black - opening):.2f}"
 
 
 def finish_rows():
@@ -170,6 +177,7 @@ def document(panel):
     hall, hall_ratio = hall_parts()
     with open("bench/BENCHMARKS.template.md", encoding="utf-8") as template:
         text = template.read()
+    with_opening, alone = white_over_black(store)
     compiler = subprocess.run(["gcc", "--version"], stdout=subprocess.PIPE, text=True).stdout.splitlines()[0]
     parts = {
         "MACHINE": f"{processor()}; {compiler}",
@@ -178,6 +186,7 @@ def document(panel):
         "RATIOS": "\n".join(rows),
         "REGION_ROUNDS": str(REGION_ROUNDS),
         "REGIONS": "\n".join(region_rows()),
+        "WHITE_FIRST": with_opening, "WHITE_FIRST_ALONE": alone,
         "FINISH_ROUNDS": str(FINISH_ROUNDS),
         "FINISH": "\n".join(finish_rows()),
         "HALL_ROUNDS": str(HALL_ROUNDS), "HALL_TABLE": hall_ratio,

@@ -1,7 +1,7 @@
 /*
- * A whole update, a bitmap upload and the upload of the whole panel as one region: the library (crates/update_loop) beside
- * plain C (plain_store.c), in one run. The versions take turns; the best round of each counts. They must put the same
- * bytes out and leave the same memory.
+ * A whole update, uploads of a bitmap with black first and with white first, and the upload of the whole panel as one
+ * region: the library (crates/update_loop) beside plain C (plain_store.c), in one run. The versions take turns; the best
+ * round of each counts. They must put the same bytes out and leave the same memory.
  *
  * Usage: update SETTINGS ROUNDS     the settings file names the panel; prints nanoseconds
  */
@@ -22,7 +22,7 @@ static const struct {
 
 static const char *const names[VERSIONS] = {"library", "plain", "trusting"};
 
-static uint8_t settings[SETTINGS_MAX + 1], bitmap[BITMAP_MAX], payload[PICTURE_MAX];
+static uint8_t settings[SETTINGS_MAX + 1], bitmap[BITMAP_MAX], negative[BITMAP_MAX], payload[PICTURE_MAX];
 static uint8_t memory[VERSIONS][2 * PICTURE_MAX], bus[VERSIONS][BUS_MAX];
 static size_t settings_len, bitmap_len, picture_len, memory_len, sent[VERSIONS];
 static unsigned width, height;
@@ -57,7 +57,7 @@ static void put_number(size_t at, uint32_t value)
         bitmap[at + i] = (uint8_t)(value >> 8 * i);
 }
 
-/* Random dots, as a bitmap file and as the payload of a region. */
+/* Random dots, as a bitmap file, as one of the same picture with white first, and as the payload of a region. */
 static void make_pictures(void)
 {
     unsigned row_bytes = panels[settings[1]].row_bytes, stride = panels[settings[1]].stride;
@@ -78,6 +78,12 @@ static void make_pictures(void)
     put_number(18, width);
     put_number(22, height);
     put_number(26, 0x00010001);
+    put_number(58, 0x00FFFFFF);
+    memcpy(negative, bitmap, 54);
+    memcpy(negative + 54, bitmap + 58, 4);
+    memcpy(negative + 58, bitmap + 54, 4);
+    for (size_t i = HEADER; i < bitmap_len; i++)
+        negative[i] = (uint8_t)~bitmap[i];
 }
 
 static void time_update(int v)
@@ -87,11 +93,30 @@ static void time_update(int v)
     sent[v] = update[v](settings, settings_len, bitmap, bitmap_len, memory[v], memory_len, bus[v], BUS_MAX);
 }
 
-static void time_bitmap(int v)
+static void upload(int v, const uint8_t *file)
 {
     for (int i = 0; i < UPLOADS; i++)
-        if ((v == 0 ? store_bitmap : plain_bitmap)(settings, settings_len, bitmap, bitmap_len, memory[v], memory_len))
+        if ((v == 0 ? store_bitmap : plain_bitmap)(settings, settings_len, file, bitmap_len, memory[v], memory_len))
             stop("a bitmap was refused");
+}
+
+static void time_bitmap(int v)
+{
+    upload(v, bitmap);
+}
+
+static void time_negative(int v)
+{
+    upload(v, negative);
+}
+
+/* An opening alone: the region after it is refused. */
+static void time_opening(int v)
+{
+    for (int i = 0; i < UPLOADS; i++)
+        if ((v == 0 ? store_region : plain_region)(settings, settings_len, 0, 0, 0, height, payload, picture_len,
+                                                   memory[v], memory_len) != 5)
+            stop("a region of no width was taken");
 }
 
 static void time_region(int v)
@@ -120,7 +145,8 @@ static void round_of(void (*work)(int), int versions, double *best)
 
 int main(int argc, char **argv)
 {
-    double update[VERSIONS] = {0}, bitmaps[2] = {0}, regions[2] = {0};
+    double update[VERSIONS] = {0}, openings[2] = {0}, bitmaps[2] = {0}, negatives[2] = {0}, regions[2] = {0};
+    static uint8_t before[2 * PICTURE_MAX];
     if (argc != 3)
         stop("usage: update SETTINGS ROUNDS");
     read_settings(argv[1]);
@@ -129,13 +155,19 @@ int main(int argc, char **argv)
         for (int v = 0; v < VERSIONS; v++)
             sent[v] = 0;
         round_of(time_update, VERSIONS, update);
+        round_of(time_opening, 2, openings);
         round_of(time_bitmap, 2, bitmaps);
+        memcpy(before, memory[0], memory_len);
+        round_of(time_negative, 2, negatives);
+        if (memcmp(before, memory[0], memory_len) != 0)
+            stop("the picture is another with white first");
         round_of(time_region, 2, regions);
     }
     printf("bytes %zu\n", sent[0]);
     for (int v = 0; v < VERSIONS; v++)
         printf("update_%s %.0f\n", names[v], update[v]);
     for (int v = 0; v < 2; v++)
-        printf("bitmap_%s %.0f\nregion_%s %.0f\n", names[v], bitmaps[v] / UPLOADS, names[v], regions[v] / UPLOADS);
+        printf("opening_%s %.0f\nbitmap_%s %.0f\nnegative_%s %.0f\nregion_%s %.0f\n", names[v], openings[v] / UPLOADS,
+               names[v], bitmaps[v] / UPLOADS, names[v], negatives[v] / UPLOADS, names[v], regions[v] / UPLOADS);
     return 0;
 }

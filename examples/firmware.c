@@ -33,7 +33,7 @@ static const uint8_t bib[EPD_BITMAP_BYTES_1_44] = {
     1, 0, 1, 0, 0, 0, 0, 0,                             /* one plane, one bit, plain */
     0x00, 0x06, 0, 0,                                   /* 1536 bytes of rows */
     0, 0, 0, 0, 0, 0, 0, 0, 0, 0, 0, 0, 0, 0, 0, 0,
-    0, 0, 0, 0, 0xFF, 0xFF, 0xFF, 0,                    /* black, white */
+    0, 0, 0, 0, 0xFF, 0xFF, 0xFF, 0,                    /* black first: a 1 is white */
     [ROW_AT(ROW)] = 0x00, 0xB4, 0xFF, 0x0F, 0x80, 0x01, 0xFF, 0xFF,
                     0xFF, 0xFF, 0xFF, 0xFF, 0xFF, 0xFF, 0xFF, 0xFF,
 };

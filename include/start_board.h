@@ -41,7 +41,7 @@ extern "C" {
 /* The numbers given back by these calls. */
 #define EPD_OK 0u
 #define EPD_BAD_SETTINGS 2u     /* the settings file breaks a rule */
-#define EPD_BAD_BITMAP 4u       /* the bitmap breaks a rule */
+#define EPD_BAD_BITMAP 4u       /* the bitmap breaks a rule, or its palette is not black and white */
 #define EPD_SHORT_OUTPUT 11u    /* the output is shorter than the line, the write, the header or the command */
 #define EPD_OUT_OF_RANGE 14u    /* panel, stage or row out of range, or dots not one row */
 #define EPD_BAD_OTP_LENGTH 18u  /* the OTP memory is not 128 bytes */
@@ -100,7 +100,11 @@ uint8_t epd_check_settings(const uint8_t *file, size_t len);
  *
  * Answers EPD_OK, or the first of these that applies:
  *   EPD_OUT_OF_RANGE  no such panel
- *   EPD_BAD_BITMAP    the file breaks a rule, its length included
+ *   EPD_BAD_BITMAP    the file breaks a rule, its length included, or its palette is neither
+ *                     black, then white nor white, then black (the fourth byte of an entry is free)
+ *
+ * With white first (the byte at 54 is FF) a 1 in the file is a black dot. For epd_build_line a 1 is
+ * white: turn each dot of the row over first.
  */
 uint8_t epd_check_bitmap(uint32_t panel, const uint8_t *file, size_t len);
 

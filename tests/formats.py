@@ -1,4 +1,4 @@
-"""Runs the examples of docs/FORMATS.md: the listing of a settings file, the script for replay, and the bitmap file of a slot.
+"""Runs the examples of docs/FORMATS.md: the listing of a settings file, the script for replay, and the bitmap file of a slot with its palettes.
 
 Usage, from the repository's root: python3 -m tests.formats
 """
@@ -37,17 +37,25 @@ def script_example(block):
         yield call, given, given if same else typed
 
 
+def written(calls):
+    """The file of slot 1 after these calls."""
+    return bytes.fromhex(replayed(calls + ["write 1"])[-1].split(" ")[1])
+
+
 def bitmap_example(text, script):
-    """The rows of the table of a file: an index, and bytes that stand there."""
+    """The rows of the table of a file: an index, and bytes that stand there. Then those of the table of palettes: the
+    palette, and what three bytes of row 10 become."""
     upload = next(line for line in script if line.startswith("region"))
-    opening = next(line for line in script if line.startswith("open"))
-    written = replayed([re.split("  +", opening)[0], re.split("  +", upload)[0], "write 1"])[-1]
-    file = bytes.fromhex(written.split(" ")[1])
-    table = text[text.index("This is the file"):].split("\n\n")[1]
+    opening = re.split("  +", next(line for line in script if line.startswith("open")))[0]
+    file = written([opening, re.split("  +", upload)[0]])
+    table, _, palettes = text[text.index("This is the file"):].split("\n\n")[1:4]
     for at, cells in re.findall(r"^\| ([\d,]+) \| (.*?) \|", table, re.M):
         typed = bytes.fromhex("".join(re.findall("`([0-9A-F ]+)`", cells)))
         index = int(at.replace(",", ""))
         yield f"bitmap at {at}", file[index:index + len(typed)], typed
+    for palette, typed in re.findall(r"^\| (`.*`) \| `(.*)` \|", palettes, re.M):
+        given = written([opening, f"bitmap 1 {(file[:54] + bytes.fromhex(palette.replace('`', '')) + file[62:]).hex()}"])
+        yield f"palette {palette}", given[1422:1425], bytes.fromhex(typed)
 
 
 def main():

@@ -13,6 +13,8 @@ from tests.program import Comparison, path_argument
 HERE = pathlib.Path(__file__).resolve().parent
 MEGABYTE = 1 << 20
 KEPT = {"1.44": "panel_1_44", "2": "panel_2_0", "2.7": "panel_2_7"}
+TOOLS = ("pillow", "netpbm", "pillow-white", "netpbm-white", "imagemagick-white")  # the last three put white first
+BLACK, WHITE = 0x000000, 0xFFFFFF
 
 
 def picture_of_pbm(file):
@@ -30,6 +32,11 @@ def put(file, at, value, n=4):
     return file[:at] + (value % 256 ** n).to_bytes(n, "little") + file[at + n:]
 
 
+def with_palette(file, first, second):
+    """The fourth byte of each entry stays."""
+    return put(put(file, 54, first, 3), 58, second, 3)
+
+
 def good_file(panel, rng):
     """A good file: everything is random that may be, or as often what real tools put there."""
     width, height, stride = panel.width, panel.height, panel.stride
@@ -40,10 +47,10 @@ def good_file(panel, rng):
                          (26, 2, 1), (28, 2, 1), (30, 4, 0), (34, 4, rng.choice([0, height * stride])),
                          (46, 4, rng.choice([0, 2]))]:
         file = put(file, at, value, n)
-    usual = rng.choice([None, None, (0, 0, 0, 0, 0x00FFFFFF), (3780, 3780, 2, 0x00FFFFFF, 0)])
+    usual = rng.choice([None, None, (0, 0, 0, 0, 0), (3780, 3780, 2, 0, 0), (3780, 3780, 2, 0, 0xFF000000)])
     for at, value in zip((38, 42, 50, 54, 58), usual or ()):
         file = put(file, at, value)
-    return file
+    return with_palette(file, *rng.choice([(BLACK, WHITE), (WHITE, BLACK)]))
 
 
 def broken_sizes(panel, file):
@@ -105,6 +112,14 @@ def broken_forms(panel, file):
         "colours 256": put(file, 46, 256),
         "colours 512": put(file, 46, 512),
         "colours 2 + 65536": put(file, 46, 2 + 65536),
+        "palette black and black": with_palette(file, BLACK, BLACK),
+        "palette white and white": with_palette(file, WHITE, WHITE),
+        "palette black and nearly white": with_palette(file, BLACK, 0xFEFFFF),
+        "palette nearly black and white": with_palette(file, 0x010000, WHITE),
+        "palette white and grey": with_palette(file, WHITE, 0x808080),
+        "palette red and blue": with_palette(file, 0xFF0000, 0x0000FF),
+        "palette of entries of three bytes": file[:54] + bytes.fromhex("000000 FFFFFF 0000") + file[62:],
+        "palette one byte late": file[:54] + bytes.fromhex("01 000000 00 FFFFFF") + file[62:],
     }
     if stride * 8 != width:
         broken["width with the padding"] = put(file, 18, 8 * stride)
@@ -122,8 +137,10 @@ def free_fields(panel, file):
         "colours 0": put(file, 46, 0),
         "colours 2": put(file, 46, 2),
         "important colours all ones": put(file, 50, -1),
-        "palette white first": put(put(file, 54, 0x00FFFFFF), 58, 0),
-        "palette of zeros": put(file, 54, 0, 8),
+        "palette black first": put(put(file, 54, 0x00000000), 58, 0x00FFFFFF),
+        "palette black first, fourth bytes all ones": put(put(file, 54, 0xFF000000), 58, 0xFFFFFFFF),
+        "palette white first": put(put(file, 54, 0x00FFFFFF), 58, 0x00000000),
+        "palette white first, fourth bytes all ones": put(put(file, 54, 0xFFFFFFFF), 58, 0xFF000000),
     }
 
 
@@ -157,19 +174,30 @@ class BitmapTest(Comparison):
             if size != (panel.width, panel.height):
                 self.fail(f"{name}.pbm has another size")
             expected = write(panel, picture)
-            for tool in ("pillow", "netpbm"):
+            for tool in TOOLS:
                 file = (HERE / f"{name}.{tool}.bmp").read_bytes()
                 for by in ("pipe", "file", 61, 1000):
                     output = self.check(f"{name}.{tool}.bmp, by {by}", file, expected, by)
                     self.check(f"{name}.{tool}.bmp, a second time", output, expected)
 
     def good_files(self, panel):
-        """Random free fields, palette and padding; all white, all black."""
+        """Random free fields, padding and order of the palette; all white, all black; a picture and its negative."""
         for i in range(20):
             self.taken(f"good file {i}, panel {panel.name}", good_file(panel, self.rng))
         row_bytes = panel.width // 8
         self.taken(f"white, panel {panel.name}", write(panel, [b"\xFF" * row_bytes] * panel.height))
         self.taken(f"black, panel {panel.name}", write(panel, [bytes(row_bytes)] * panel.height))
+        file = write(panel, [self.rng.randbytes(row_bytes) for _ in range(panel.height)])
+        negative = with_palette(file, WHITE, BLACK)[:HEADER] + bytes(255 - byte for byte in file[HEADER:])
+        self.check(f"the negative with white first, panel {panel.name}", negative, file)
+
+    def palettes(self, panel):
+        """Every value of each byte of the palette, in both orders."""
+        for first, second in ((BLACK, WHITE), (WHITE, BLACK)):
+            file = with_palette(good_file(panel, self.rng), first, second)
+            for at in range(54, HEADER):
+                for value in range(256):
+                    self.check(f"{value} at {at}, panel {panel.name}", put(file, at, value, 1), normal(put(file, at, value, 1)))
 
     def fields(self, panel):
         """One rule after another broken, free fields that may hold anything, and each header byte damaged."""
@@ -221,6 +249,7 @@ def main():
         test.fields(panel)
         test.lengths(panel)
         test.others(panel)
+    test.palettes(PANELS[0])
     test.refused_file("no input", b"")
     test.refused_file("no input, as a file", b"", "file")
     test.refused_file("a megabyte in pieces", good_file(PANELS[2], test.rng).ljust(MEGABYTE, b"\0"), 10007)

@@ -8,6 +8,16 @@ from tests.panels import PANELS
 
 REFUSED = b"refused 4\n"
 HEADER = 62
+BLACK, WHITE = b"\x00\x00\x00", b"\xFF\xFF\xFF"
+PALETTE = BLACK + b"\x00" + WHITE + b"\x00"
+
+
+def dots_of(colours):
+    """What each byte of a row becomes: a bit is the index of one of the two colours, and a white dot is 1."""
+    return bytes(sum((colours[byte >> i & 1] == WHITE) << i for i in range(8)) for byte in range(256))
+
+
+DOTS = {colours: dots_of(colours) for colours in ((BLACK, WHITE), (WHITE, BLACK))}
 
 
 def file_length(panel):
@@ -42,10 +52,13 @@ def read(panel, file):
         return None
     if number(file, 46, 4) not in (0, 2):
         return None
+    dots = DOTS.get((file[54:57], file[58:61]))  # the fourth byte of an entry is free
+    if dots is None:
+        return None
     rows = []
     for row in range(height):
         at = HEADER + (height - 1 - row) * stride  # the bottom row comes first
-        rows.append(file[at:at + width // 8])
+        rows.append(file[at:at + width // 8].translate(dots))
     return rows
 
 
@@ -57,7 +70,7 @@ def write(panel, rows):
     for n, value in [(4, length), (4, 0), (4, 62), (4, 40), (4, width), (4, height), (2, 1), (2, 1), (4, 0),
                      (4, height * stride), (4, 0), (4, 0), (4, 0), (4, 0)]:
         header += value.to_bytes(n, "little")
-    header += bytes.fromhex("00000000 FFFFFF00")
+    header += PALETTE
     body = b"".join(row + bytes(stride - len(row)) for row in reversed(rows))
     return header + body
 

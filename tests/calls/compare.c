@@ -742,10 +742,17 @@ static uint32_t body_bytes(uint32_t panel)
     return height[panel] * stride[panel];
 }
 
+/* Black and white; the fourth byte of each entry stays. */
+static void put_palette(struct file *f, int black_first)
+{
+    put_number(f->bytes + 54, black_first ? 0 : 0xFFFFFF, 3);
+    put_number(f->bytes + 58, black_first ? 0xFFFFFF : 0, 3);
+}
+
 /* A good file: everything is random that may be, or as often what real tools put there. */
 static void good_bitmap(struct file *f, uint32_t panel)
 {
-    static const uint32_t usual[2][5] = {{0, 0, 0, 0, 0x00FFFFFF}, {3780, 3780, 2, 0x00FFFFFF, 0}};
+    static const uint32_t usual[2][5] = {{0, 0, 0, 0, 0}, {3780, 3780, 2, 0, 0xFF000000}};
     static const size_t places[5] = {38, 42, 50, 54, 58};
 
     f->len = bitmap_bytes[panel];
@@ -766,6 +773,7 @@ static void good_bitmap(struct file *f, uint32_t panel)
     uint32_t tool = below(4);
     for (int i = 0; i < 5 && tool < 2; i++)
         put_number(f->bytes + places[i], usual[tool][i], 4);
+    put_palette(f, below(2) == 0);
 }
 
 static void bitmaps_good(void)
@@ -806,6 +814,37 @@ static void bitmaps_damaged(void)
                 bitmap(panel, f.bytes, f.len);
                 f.bytes[at] ^= (uint8_t)change;
             }
+    end_group();
+
+    begin_group("bitmaps, every value of palette bytes, in both orders");
+    for (uint32_t panel = 0; panel < 3; panel++)
+        for (int black_first = 0; black_first < 2; black_first++)
+            for (size_t at = 54; at < 62; at++) {
+                good_bitmap(&f, panel);
+                put_palette(&f, black_first);
+                uint8_t old = f.bytes[at];
+                for (unsigned value = 0; value < 256; value++) {
+                    int free_byte = at == 57 || at == 61;
+                    f.bytes[at] = (uint8_t)value;
+                    bitmap_known(panel, f.bytes, f.len, free_byte || value == old ? 0 : 4);
+                }
+            }
+    end_group();
+
+    begin_group("bitmaps, pairs of colours");
+    {
+        static const uint32_t colours[] = {0x000000, 0xFFFFFF, 0x000001, 0x010000, 0xFEFFFF, 0xFFFFFE, 0xFF0000,
+                                           0x0000FF, 0x00FF00, 0x808080, 0x00FFFF, 0xFFFF00};
+        const size_t n = sizeof colours / sizeof colours[0];
+        for (uint32_t panel = 0; panel < 3; panel++)
+            for (size_t i = 0; i < n; i++)
+                for (size_t k = 0; k < n; k++) {
+                    good_bitmap(&f, panel);
+                    put_number(f.bytes + 54, colours[i], 3);
+                    put_number(f.bytes + 58, colours[k], 3);
+                    bitmap_known(panel, f.bytes, f.len, i + k == 1 ? 0 : 4); /* the first two, in either order */
+                }
+    }
     end_group();
 
     begin_group("bitmaps, likely numbers in each field");

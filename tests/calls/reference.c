@@ -247,5 +247,9 @@ uint8_t ref_check_bitmap(uint32_t panel, const uint8_t *file, size_t len)
     uint32_t colours = number(file, 46, 4);
     if (colours != 0 && colours != 2)
         return 4;
+    const uint32_t black = 0x000000, white = 0xFFFFFF;
+    uint32_t first = number(file, 54, 3), second = number(file, 58, 3); /* the fourth byte of an entry is free */
+    if (!(first == black && second == white) && !(first == white && second == black))
+        return 4;
     return 0;
 }

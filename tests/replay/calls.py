@@ -139,7 +139,16 @@ def region(script):
 def bitmap(script):
     rng = script.rng
     file = rng.choice((inputs.bitmap, inputs.damaged_bitmap))(rng, any_panel(script))
-    script.call(f"bitmap {any_slot(script)} {hexadecimal(rng, file)}")
+    answer = script.call(f"bitmap {any_slot(script)} {hexadecimal(rng, file)}")
+    if answer == "0":
+        script.places["bitmaps taken with white first"] += file[54:57] == bitmaps.WHITE
+    elif answer == "4":
+        script.places["bitmaps refused for the palette alone"] += palette_alone(script.store.panel, file)
+
+
+def palette_alone(panel, file):
+    """Whether a refused file would be taken with another palette."""
+    return bitmaps.read(panel, file[:54] + bitmaps.PALETTE + file[62:]) is not None
 
 
 def upload_to_slot_of_run(script):

@@ -99,6 +99,23 @@ def regions(script):
         script.expect(text, typed)
 
 
+def palettes(script):
+    """A picture of one row that is not white, sent with black first and with white first; then other palettes."""
+    written = bitmap_file("E7" + "FF" * 15)
+    black_first = written[2:]
+    header = black_first[:108]
+    white_first = header + "FFFFFF00 00000000".replace(" ", "") + "00" * 16 * 95 + "18" + "00" * 15
+    free = header + "FFFFFFA5 0000005A".replace(" ", "") + white_first[124:]
+    script.expect(f"open 3 {FILE}", "0")
+    for slot, file in ((1, black_first), (2, white_first), (3, free)):
+        script.expect(f"bitmap {slot} {file}", "0")
+        script.expect(f"write {slot}", written)
+    for colours in ("00000000 00000000", "FFFFFF00 FFFFFF00", "00000000 FEFFFF00", "FFFFFF00 00000100", "FFFF0000 00000000",
+                    "000000FF FFFF0000", "00FFFFFF 00000000"):
+        script.expect(f"bitmap 2 {header}{colours.replace(' ', '')}{white_first[124:]}", "4")
+    script.expect("write 2", written)
+
+
 def steps(script):
     script.expect(f"open 1 {FILE}", "0")
     start(script, 4294967290)
@@ -182,7 +199,7 @@ def orders(script):
 
 
 def fixed_scripts():
-    for make in (dot_codes, net_pushes, scan_bytes, regions, steps, early_poll, late_frame, end_in_time, end_late, orders):
+    for make in (dot_codes, net_pushes, scan_bytes, regions, palettes, steps, early_poll, late_frame, end_in_time, end_late, orders):
         script = Script(make.__name__)
         make(script)
         yield script

@@ -160,7 +160,10 @@ def bitmap(rng, panel):
         file[34:38] = rng.choice((bytes(4), file[34:38]))
         file[38:46] = rng.randbytes(8)
         file[46:50] = rng.choice((0, 2)).to_bytes(4, "little")
-        file[50:62] = rng.randbytes(12)
+        file[50:54] = rng.randbytes(4)
+        file[57], file[61] = rng.randbytes(2)
+        if rng.random() < 0.5:
+            file[54:57], file[58:61] = file[58:61], file[54:57]
         padding = panel.stride - panel.width // 8
         for y in range(panel.height if padding else 0):
             end = bitmaps.HEADER + (y + 1) * panel.stride
@@ -170,12 +173,12 @@ def bitmap(rng, panel):
 
 # place and length of the header's fields that have a rule
 LOOKED_AT = ((0, 1), (1, 1), (2, 4), (6, 2), (8, 2), (10, 4), (14, 4), (18, 4), (22, 4), (26, 2), (28, 2), (30, 4), (34, 4),
-             (46, 4))
+             (46, 4), (54, 3), (58, 3))
 
 
 def damaged_bitmap(rng, panel):
     file = bitmap(rng, panel)
-    way = rng.randrange(9)
+    way = rng.randrange(10)
     if way == 0:
         return file[:rng.choice((0, 1, 61, 62, len(file) - 1, rng.randrange(len(file))))]
     if way == 1:
@@ -187,7 +190,18 @@ def damaged_bitmap(rng, panel):
     if way == 4:
         longer = file + bytes(rng.choice((1, 4)))
         return longer[:2] + len(longer).to_bytes(4, "little") + longer[6:]
+    if way == 5:
+        return other_palette(rng, file)
     return changed(rng, file, *rng.choice(LOOKED_AT))
+
+
+def other_palette(rng, file):
+    """Colours that are not black and white: one of these twice, nearly these, or any."""
+    black, white = bitmaps.BLACK, bitmaps.WHITE
+    pair = [*rng.choice(((black, black), (white, white), (black, b"\xFF\xFF\xFE"), (b"\x01\x00\x00", white), (white, b"\x00\x00\x80"),
+                         (b"\x00\xFF\xFF", b"\xFF\x00\x00"), (rng.randbytes(3), white)))]
+    rng.shuffle(pair)
+    return file[:54] + pair[0] + file[57:58] + pair[1] + file[61:]
 
 
 # regions

@@ -193,6 +193,7 @@ PLACES_TO_REACH = (
     *(f"runs finished, {panel.name} inch" for panel in PANELS),
     "runs with a wait before the first line", "runs with waits alone to stop", "runs without stop steps",
     "runs with F beyond 2^32", "last lines by F + 120N", "last lines later than F + 120N",
+    "bitmaps taken with white first", "bitmaps refused for the palette alone",
     "polls 1 ms early", "polls over a wrap of the tick", "accepted steps of 2^31 - 1", "refused steps of 2^31",
     "refused steps of 2^32 - 1",
     "abandoned among the start writes", *(f"abandoned in stage {stage}" for stage in (1, 2, 3, 4)),

@@ -1,6 +1,6 @@
 -- Laws of the check's sizes and answer.
 -- Assumes nothing.
-use mathlib.Core.Path.{_≡_}
+use mathlib.Core.Path.{_≡_, sym}
 use mathlib.Core.Bool.{Bool, true, false, not}
 use mathlib.Core.List.{List, [], _∷_, map}
 use Prim.Native.Nat.{ℕ, _+_, _*_, _≤_}
@@ -9,9 +9,12 @@ use native.Mathlib.Omega.{arith}
 use mir.Val.{Fits}
 use mir.Syntax.{w64}
 use borrow.Author.Tests.{eq-eqb, ne-eqb}
+use lib.Dec.{eqb}
 use lib.ListN.{length}
 use Rattle.lists.specs.Rules.{every, case, firstOf}
+use Rattle.lists.proofs.Rules.{broken}
 use Rattle.panel.specs.Panels.{isPanel, rowsOf, rowBytesOf, strideOf}
+use Rattle.bitmap.specs.Palettes.{paletteOf, blackAndWhite}
 use Rattle.bitmap.specs.Header.{fileLength, headerFields, fieldGood}
 use Rattle.bitmap.specs.Bitmap.{bitmapGood, checkBitmap}
 
@@ -25,15 +28,21 @@ rows-fit h s p q = omega (arith, rows-small h s p q)
 pub file-fits : (n h s : ℕ) → n ≤ 100 → h ≤ 176 → s ≤ 36 → Fits w64 (n + h * s)
 file-fits n h s l p q = omega (arith, rows-small h s p q)
 
--- the length decides where it is wrong, and else the fields
+-- the length decides where it is wrong, then the palette, and else the fields
 module _ (b h s : ℕ) (file : List ℕ) where
   pub wrong-length : (length file ≡ fileLength h s → ⊥) → false ≡ bitmapGood b h s file
   unfolding bitmapGood
   wrong-length n = rw (ne-eqb (length file) (fileLength h s) n)
 
-  pub right-length : length file ≡ fileLength h s → bitmapGood b h s file ≡ every (map (fieldGood file) (headerFields b h s))
+  pub wrong-palette : blackAndWhite (paletteOf file) ≡ false → false ≡ bitmapGood b h s file
   unfolding bitmapGood
-  right-length e = rw (eq-eqb (length file) (fileLength h s) e)
+  wrong-palette e =
+      sym (broken 1 (eqb (length file) (fileLength h s) ∷ blackAndWhite (paletteOf file) ∷ map (fieldGood file) (headerFields b h s)) e)
+
+  pub fields-decide : length file ≡ fileLength h s → blackAndWhite (paletteOf file) ≡ true
+      → bitmapGood b h s file ≡ every (map (fieldGood file) (headerFields b h s))
+  unfolding bitmapGood
+  fields-decide e p = rw (eq-eqb (length file) (fileLength h s) e, p)
 
 -- where the panel is one, the file decides
 pub check-file : (panel : ℕ) (file : List ℕ) (b h s : ℕ) (t : Bool) → isPanel panel ≡ true

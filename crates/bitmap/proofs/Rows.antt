@@ -2,7 +2,7 @@
 -- Assumes nothing.
 use mathlib.Core.Path.{_≡_, refl, sym, ap, _∙_}
 use mathlib.Core.Bool.{cond}
-use mathlib.Core.List.{List, _++_}
+use mathlib.Core.List.{List, _++_, map}
 use Prim.Native.Nat.{ℕ, _+_, _-_, _*_, _/_, _%_, _≤_, _<_}
 use native.Mathlib.Nat.{add-assoc, suc-mul}
 use native.Mathlib.Numerals.{add-one}
@@ -11,14 +11,16 @@ use native.Mathlib.Decide.{decLt}
 use borrow.Author.Tests.{lt-ltb, le-ltb}
 use lib.Arith.{digits-lt, digits-div, digits-mod}
 use lib.Dec.{ltb}
-use lib.ListN.{length, getD, take, drop, replicate, length-append, length-replicate, length-take, getD-replicate, List·getD-append}
+use lib.ListN.{length, getD, take, drop, replicate, length-append, length-replicate, length-take, length-map, getD-replicate, List·getD-append}
 use lib.Seq.{ext-getD, getD-take, getD-drop, getD-append-add, length-take-le, take-add, take-all}
 use Rattle.lists.specs.Lists.{overlay, overlayAt}
 use Rattle.lists.proofs.Lists.{getD-tabulate, length-overlay, overlay-whole}
+use Rattle.lists.proofs.Elements.{at-map}
 use Rattle.lists.proofs.Parts.{more-rows, part-length, part-next}
 use Rattle.picture.specs.Slots.{pictureOf, rawOf, pictureRow}
 use Rattle.picture.proofs.Pictures.{Bytes, bytes-take, bytes-drop, bytes-append}
 use Rattle.picture.proofs.Slots.{Rows, picture-raw}
+use Rattle.bitmap.specs.Palettes.{paletteOf, dotsOf}
 use Rattle.bitmap.specs.Header.{headerLength, fileLength}
 use Rattle.bitmap.specs.Bitmap.{readPicture, fileRows}
 use Rattle.bitmap.proofs.RoundTrip.{length-rows, length-read, rows-read, read-byte}
@@ -103,9 +105,9 @@ module _ (b h s : ℕ) (some : 0 < b) (within : b ≤ s) (file : List ℕ) (byte
       )
 
   module _ (room : fileLength h s ≤ length file) (y : ℕ) (low : y < h) where
-    -- a row of the picture: a row of the file, counted from its other end
+    -- a row of the picture: the dots of a row of the file, counted from its other end
     abbrev rowIn : List ℕ
-    rowIn = take b (drop (headerLength + (h - 1 - y) * s) file)
+    rowIn = map (dotsOf (paletteOf file)) (take b (drop (headerLength + (h - 1 - y) * s) file))
 
     read-row : pictureRow b (readPicture b h s file) y ≡ rowIn
     read-row =
@@ -113,14 +115,17 @@ module _ (b h s : ℕ) (some : 0 < b) (within : b ≤ s) (file : List ℕ) (byte
         let at : ℕ = headerLength + (h - 1 - y) * s in
         let e : length (pictureRow b picture y) ≡ b =
         part-length (y * b) b picture (omega (arith, length-read b h s file, more-rows y h b low)) in
-        let f : length rowIn ≡ b = part-length at b file (omega (arith, more-rows (h - 1 - y) h s (omega arith))) in
+        let bits : List ℕ = take b (drop at file) in
+        let g : length bits ≡ b = part-length at b file (omega (arith, more-rows (h - 1 - y) h s (omega arith))) in
+        let f : length rowIn ≡ b = length-map bits (dotsOf (paletteOf file)) ∙ g in
         ext-getD 0 (pictureRow b picture y) rowIn (e ∙ sym f)
         (λ i l.
         let q : i < b = omega (arith, e) in
         getD-take b (drop (y * b) picture) i 0 q
         ∙ getD-drop (y * b) picture i 0
         ∙ read-byte b h s some within file y i low q
-        ∙ sym (getD-take b (drop at file) i 0 q ∙ getD-drop at file i 0 ∙ rw add-assoc))
+        ∙ ap (dotsOf (paletteOf file)) (sym (getD-take b (drop at file) i 0 q ∙ getD-drop at file i 0 ∙ rw add-assoc))
+        ∙ at-map (dotsOf (paletteOf file)) 0 bits i 0 (omega arith))
 
     -- a turn of the loop: one row more, right after those that are there already
     pub read-next : {d e : List ℕ} → d ≡ rawOf b h (partRead b h s file old y)

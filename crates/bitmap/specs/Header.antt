@@ -9,6 +9,7 @@ use Rattle.bitmap.specs.declared.Also.{Also}
 use Rattle.bitmap.specs.declared.Also.the-variants.{Only, Or, OrAnything}
 use Rattle.bitmap.specs.declared.Field.{Field}
 use Rattle.bitmap.specs.Numbers.{numberAt, numberBytes}
+use Rattle.bitmap.specs.Palettes.{black, white}
 
 -- the bytes before the rows
 abbrev pub headerLength : ℕ
@@ -21,7 +22,8 @@ fileLength h s = headerLength + h * s
 abbrev pub field : (at size number : ℕ) (also : Also) → Field
 field at size number also = record { at = at; size = size; number = number; also = also }
 
--- the fields, in file order, without a gap; the writer puts 0 at 38 to 53, and a palette of black, then white
+-- the fields, in file order, without a gap; the writer puts 0 at 38 to 53, and a palette of black, then white; of its two
+-- entries together specs/Palettes.antt says what they may hold
 abbrev pub headerFields : (b h s : ℕ) → List Field
 headerFields b h s =
     field 0 2 0x4D42 Only  -- BM
@@ -39,8 +41,8 @@ headerFields b h s =
     ∷ field 42 4 0 OrAnything
     ∷ field 46 4 0 (Or 2)
     ∷ field 50 4 0 OrAnything
-    ∷ field 54 4 0x000000 OrAnything  -- the palette: black
-    ∷ field 58 4 0xFFFFFF OrAnything  -- and white
+    ∷ field 54 4 black OrAnything  -- the palette
+    ∷ field 58 4 white OrAnything
     ∷ []
 
 -- what a field may hold besides its own number

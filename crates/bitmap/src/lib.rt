@@ -3,11 +3,12 @@
 ghost use mathlib.Core.Path.{_≡_};
 ghost use Prim.Native.Nat.{ℕ, _+_, _-_, _*_, _<_, _≤_};
 ghost use mathlib.Core.List.{_++_, map};
-ghost use lib.ListN.{length, replicate};
+ghost use lib.ListN.{length, replicate, take, drop};
 ghost use Rattle.lists.specs.Lists.{overlay, overlayAt};
 ghost use Rattle.lists.specs.Rules.{every};
 ghost use Rattle.picture.specs.Slots.{pictureOf, rawOf, pictureRow};
 ghost use Rattle.bitmap.specs.Numbers.{numberAt, numberBytes};
+ghost use Rattle.bitmap.specs.Palettes.{paletteFrom, paletteOf, blackAndWhite, dotsOf};
 ghost use Rattle.bitmap.specs.Header.{
   headerLength,
   fileLength,
@@ -23,6 +24,13 @@ ghost use Rattle.bitmap.specs.Bitmap.{
   fileRows,
   writtenFile,
 };
+
+// What the two entries of a palette are: black, then white; white, then black; or any others.
+pub enum Palette {
+    BlackFirst,
+    WhiteFirst,
+    Neither,
+}
 
 // ---- the table of fields
 
@@ -54,6 +62,7 @@ pub enum Number {
 // An entry of the table: a field for pictures of any size, with its parts in the same order.
 pub struct Entry(pub u8, pub u8, pub Number, pub Also);
 
+// The last two are the palette, on whose entries together `palette_of` decides.
 const FIELDS: [Entry; 17] = [
     Entry(0, 2, Number::Fixed(0x4D42), Also::Only),
     Entry(2, 4, Number::FileLength, Also::Only),
@@ -172,12 +181,51 @@ fn header_good(b: usize, h: usize, s: usize, file: &[u8]) -> bool
     true
 }
 
+const BLACK: usize = 0x000000;
+
+const WHITE: usize = 0xFFFFFF;
+
+// The palette of two colours.
+fn palette_from(first: usize, second: usize) -> Palette
+    ensures { λ r. ⌜ r ≡ paletteFrom first second ⌝ }
+{
+    if first == BLACK && second == WHITE {
+        return Palette::BlackFirst;
+    }
+    if first == WHITE && second == BLACK {
+        return Palette::WhiteFirst;
+    }
+    Palette::Neither
+}
+
+// The palette of a file.
+fn palette_of(file: &[u8]) -> Palette
+    requires { ⌜ 62 ≤ length (now file) ⌝ }
+    ensures { λ r. ⌜ r ≡ paletteOf (now (file .entry)) ⌝ }
+{
+    palette_from(number_at(3, file, 54), number_at(3, file, 58))
+}
+
+// Whether a bitmap may have a palette.
+fn black_and_white(palette: Palette) -> bool
+    ensures { λ r. ⌜ r ≡ blackAndWhite palette ⌝ }
+{
+    match palette {
+        Palette::BlackFirst => true,
+        Palette::WhiteFirst => true,
+        Palette::Neither => false,
+    }
+}
+
 // Whether a file is a bitmap of a picture.
 pub fn bitmap_good(b: usize, h: usize, s: usize, file: &[u8]) -> bool
     requires { ⌜ (b ≤ 33) × (h ≤ 176) × (s ≤ 36) ⌝ }
     ensures { λ r. ⌜ r ≡ bitmapGood b h s (now (file .entry)) ⌝ }
 {
     if file.len() != file_length(h, s) {
+        return false;
+    }
+    if !black_and_white(palette_of(file)) {
         return false;
     }
     header_good(b, h, s, file)
@@ -267,16 +315,31 @@ pub fn write_bitmap(b: usize, h: usize, s: usize, raw: &[u8], out: &mut [u8]) ->
 
 // ---- the reader
 
+// Makes row y of the picture that a slot holds the dots of the b bytes of `rows` from index `at` on.
+fn put_dots(b: usize, h: usize, palette: Palette, raw: &mut [u8], y: usize, rows: &[u8], at: usize)
+    requires { ⌜ (length (now raw) ≡ h * b) × (y < h) × (b ≤ 33) × (h ≤ 176) × (at + b ≤ length (now rows)) ⌝ }
+    ensures { λ _. ⌜ now (raw .exit)
+        ≡ rawOf b h (overlayAt (y * b) (map (dotsOf palette) (take b (drop at (now (rows .entry)))))
+        (pictureOf b h (now (raw .entry)))) ⌝ }
+{
+    match palette {
+        Palette::BlackFirst => picture::put_row(b, h, raw, y, rows, at),
+        Palette::WhiteFirst => picture::put_turned(b, h, raw, y, rows, at),
+        Palette::Neither => picture::put_row(b, h, raw, y, rows, at),
+    }
+}
+
 // Makes a slot hold the picture of a bitmap file: its rows stand after the header, bottom row first.
 pub fn read_bitmap(b: usize, h: usize, s: usize, file: &[u8], raw: &mut [u8])
     requires { ⌜ (0 < b) × (b ≤ 33) × (b ≤ s) × (s ≤ 36) × (h ≤ 176) × (length (now raw) ≡ h * b)
         × (fileLength h s ≤ length (now file)) ⌝ }
     ensures { λ _. ⌜ now (raw .exit) ≡ rawOf b h (readPicture b h s (now (file .entry))) ⌝ }
 {
+    let palette = palette_of(file);
     let mut y: usize = 0;
     while y < h {
         let j = h - 1 - y;
-        picture::put_row(b, h, raw, y, file, 62 + j * s);
+        put_dots(b, h, palette, raw, y, file, 62 + j * s);
         y += 1;
     }
 }

@@ -1,7 +1,7 @@
 -- Laws of the slots of the lent memory. Only the first section sees how a slot keeps its rows.
 -- Assumes nothing.
 use mathlib.Core.Path.{_≡_, refl, sym, ap, _∙_}
-use mathlib.Core.List.{List, _++_}
+use mathlib.Core.List.{List, _++_, map}
 use Prim.Native.Nat.{ℕ, _+_, _-_, _*_, _/_, _%_, _^_, _≤_, _<_}
 use native.Mathlib.Nat.{add-assoc, zero-add, suc-mul, add-sub-cancel-left}
 use native.Mathlib.Numerals.{add-one}
@@ -14,7 +14,7 @@ use Rattle.lists.specs.Lists.{overlayAt}
 use Rattle.lists.proofs.Lists.{length-tabulate, length-overlayAt}
 use Rattle.panel.specs.Dots.{rowDot, dot}
 use Rattle.panel.proofs.Dots.{dot-lt, dot-row}
-use Rattle.picture.specs.Pictures.{packDots, draw, over, overdrawn}
+use Rattle.picture.specs.Pictures.{packDots, turned, draw, over, overdrawn}
 use Rattle.picture.specs.Slots.{pictureOf, rawOf, slotBytes, withBytes, slotPicture, withPicture, pictureRow, painted}
 use Rattle.picture.specs.Facts.{SlotIn}
 use Rattle.lists.proofs.Parts.{more-rows, part-length, part-own, part-before, part-after, overlayAt-own}
@@ -31,6 +31,13 @@ pub row-copied : (b h : ℕ) (l : List ℕ) (y at : ℕ) (out out′ : List ℕ)
     → out′ ≡ overlayAt at (take (y * b + b - y * b) (drop (y * b) l)) out → out′ ≡ overlayAt at (pictureRow b (pictureOf b h l) y) out
 unfolding pictureOf
 row-copied b h l y at out out′ e = rw (add-sub-cancel-left (y * b) b) at e
+
+-- row y, replaced by its bytes turned over
+pub row-turned : (b h : ℕ) (l : List ℕ) (y : ℕ) (rows : List ℕ) (at : ℕ) (l′ : List ℕ)
+    → l′ ≡ overlayAt (y * b) (map turned (take (at + b - at) (drop at rows))) l
+    → l′ ≡ rawOf b h (overlayAt (y * b) (map turned (take b (drop at rows))) (pictureOf b h l))
+unfolding pictureOf rawOf
+row-turned b h l y rows at l′ e = rw (add-sub-cancel-left at b) at e
 
 -- row y of a slot, by the bytes of the memory that hold it
 pub row-of-slot : (b h : ℕ) (m : List ℕ) (slot y : ℕ) → slot * (h * b) + h * b ≤ length m → y < h

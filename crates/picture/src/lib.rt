@@ -2,12 +2,13 @@
 ghost use mathlib.Core.Path.{_≡_};
 ghost use Prim.Native.Nat.{_+_, _-_, _*_, _/_, _%_, _<_, _≤_};
 ghost use mathlib.Core.Bool.{true};
+ghost use mathlib.Core.List.{map};
 ghost use lib.Dec.{leb};
 ghost use lib.ListN.{length, take, drop};
 ghost use Rattle.lists.specs.Lists.{overlayAt};
 ghost use Rattle.lists.specs.Rules.{allBelow, firstOf};
 ghost use Rattle.panel.specs.Dots.{rowDot, dot};
-ghost use Rattle.picture.specs.Pictures.{packDots};
+ghost use Rattle.picture.specs.Pictures.{packDots, turned};
 ghost use Rattle.picture.specs.Slots.{pictureOf, rawOf, pictureRow, painted};
 ghost use Rattle.picture.specs.Regions.{
   regionGood,
@@ -184,6 +185,28 @@ pub fn put_row(b: usize, h: usize, raw: &mut [u8], y: usize, rows: &[u8], at: us
 {
     let end = at + b;
     paint_row(b, h, raw, 0, y, 8 * b, &rows[at..end]);
+}
+
+// Copies `bytes` into `out`, from index `at` on, with each dot turned over.
+fn turn_at(out: &mut [u8], at: usize, bytes: &[u8])
+    requires { ⌜ at + length (now bytes) ≤ length (now out) ⌝ }
+    ensures { λ _. ⌜ now (out .exit) ≡ overlayAt at (map turned (now (bytes .entry))) (now (out .entry)) ⌝ }
+{
+    let mut i = 0;
+    while i < bytes.len() {
+        out[at + i] = 255 - bytes[i];
+        i += 1;
+    }
+}
+
+// Makes row y of the picture that a slot holds the b bytes of `rows` from index `at` on, with each dot turned over.
+pub fn put_turned(b: usize, h: usize, raw: &mut [u8], y: usize, rows: &[u8], at: usize)
+    requires { ⌜ (length (now raw) ≡ h * b) × (y < h) × (b ≤ 33) × (h ≤ 176) × (at + b ≤ length (now rows)) ⌝ }
+    ensures { λ _. ⌜ now (raw .exit)
+        ≡ rawOf b h (overlayAt (y * b) (map turned (take b (drop at (now (rows .entry))))) (pictureOf b h (now (raw .entry)))) ⌝ }
+{
+    let end = at + b;
+    turn_at(raw, y * b, &rows[at..end]);
 }
 
 // Whether `size` dots from dot `from` on end by dot `limit`. The sum is a whole number: 64 bits hold it on any machine.
