@@ -39,7 +39,7 @@ test: tests
 
 # What the tests run: the static libraries and the programs. Only proved crates are built.
 build:
-	rt check start_board update_loop by_dots settings_list bitmap_normal layout_list replay
+	rt check start_board update_loop by_dots settings_list bitmap_normal bitmap_mend layout_list replay
 	rt staticlib start_board
 	rt staticlib update_loop
 	rt staticlib by_dots
@@ -70,6 +70,11 @@ tests: build
 	$(PYTHON) -m tests.listing.compare target/bin/settings_list
 	@echo "== bitmaps made by other tools, and damaged ones"
 	$(PYTHON) -m tests.bitmaps.compare target/bin/bitmap_normal
+	@echo "== damaged bitmaps mended, by the C call and by the program, against an independent implementation"
+	$(CC) $(CFLAGS) -Iinclude -o $(OUT)/mending tests/mending/compare.c tests/mending/reference.c $(LIBRARY)
+	$(OUT)/mending tests/bitmaps/*.bmp
+	$(CC) $(CFLAGS) -o $(OUT)/mend_report tests/mending/report.c tests/mending/reference.c
+	$(PYTHON) -m tests.mending.compare target/bin/bitmap_mend $(OUT)/mend_report
 	@echo "== layouts against an independent implementation, every dot counted"
 	$(PYTHON) -m tests.layout.compare target/bin/layout_list
 	@echo "== every public call on the store has a place in demand 3"

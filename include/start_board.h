@@ -1,12 +1,12 @@
 /*
- * The start board driver's calls for C firmware: the line builder, the two file checks, the updates of the
- * finish arch panels, and the uploads to the hall display. docs/FORMATS.md shows a line, a settings file, a
- * bitmap and an upload command byte by byte.
+ * The start board driver's calls for C firmware: the line builder, the two file checks, the mending of bitmap
+ * files, the updates of the finish arch panels, and the uploads to the hall display. docs/FORMATS.md shows a line,
+ * a settings file, a bitmap, a list of changes and an upload command byte by byte.
  *
  * Link with libstart_board.a, which is built for x86-64 Linux. The calls keep no state, take memory
  * from nobody but the caller, never stop and never write outside the bytes they report. A refusal
  * changes no byte. Three things are asked of the caller: that a pointer with a length n may be read
- * (out, memory: written) for n bytes, that a null pointer has length 0, which is an empty slice, and that
+ * (out, list, memory: written) for n bytes, that a null pointer has length 0, which is an empty slice, and that
  * what a call reads does not overlap what it writes.
  */
 #ifndef START_BOARD_H
@@ -42,7 +42,7 @@ extern "C" {
 #define EPD_OK 0u
 #define EPD_BAD_SETTINGS 2u     /* the settings file breaks a rule */
 #define EPD_BAD_BITMAP 4u       /* the bitmap breaks a rule, or its palette is not black and white */
-#define EPD_SHORT_OUTPUT 11u    /* the output is shorter than the line, the write, the header or the command */
+#define EPD_SHORT_OUTPUT 11u    /* an output is shorter than what the call puts there */
 #define EPD_OUT_OF_RANGE 14u    /* panel, stage or row out of range, or dots not one row */
 #define EPD_BAD_OTP_LENGTH 18u  /* the OTP memory is not 128 bytes */
 #define EPD_BAD_SOFT_START 19u  /* a REPEAT or DELAY byte of the OTP memory has bit 7 clear */
@@ -107,6 +107,41 @@ uint8_t epd_check_settings(const uint8_t *file, size_t len);
  * white: turn each dot of the row over first.
  */
 uint8_t epd_check_bitmap(uint32_t panel, const uint8_t *file, size_t len);
+
+/*
+ * Mends a damaged bitmap file for a panel. These are mended and no others: a wrong length at 2, zeros at 6, size
+ * at 34 or count at 46, padding that is not 0, and bytes missing at the end, which become white dots and zero
+ * padding. The mended file passes epd_check_bitmap.
+ *
+ * panel     a panel's code
+ * file      the damaged file, from its first byte on
+ * out       takes the mended file: the bytes of a bitmap file of this panel; those after it stay as they are
+ * list      takes four bytes for each changed byte, in file order: its offset (two bytes, high byte first), the
+ *           old byte and the new; bytes after the list stay as they are
+ * list_len  EPD_MEND_LIST_BYTES of the panel is enough for every file
+ *
+ * Answers one number, which the macros below take apart. EPD_MEND_NUMBER is EPD_OK, or the first of these that
+ * applies, and then the other parts are 0:
+ *   EPD_OUT_OF_RANGE  no such panel
+ *   EPD_BAD_BITMAP    another fixed field or the palette is wrong, or the file is shorter than 62 bytes or longer
+ *                     than a bitmap file of this panel
+ *   EPD_SHORT_OUTPUT  out is shorter than the mended file, or list than the list
+ *
+ * To get the old file back, put the old bytes of the list at their offsets and cut the file at the added bytes.
+ */
+uint64_t epd_mend_bitmap(uint32_t panel, const uint8_t *file, size_t file_len, uint8_t *out, size_t out_len,
+                         uint8_t *list, size_t list_len);
+
+/* The number; how many bytes were changed; where bytes were added, from which offset on and how many (else 0, 0). */
+#define EPD_MEND_NUMBER(answer) ((uint32_t)((uint64_t)(answer) >> 48))
+#define EPD_MEND_CHANGES(answer) ((uint32_t)((uint64_t)(answer) >> 32 & 0xFFFFu))
+#define EPD_MEND_ADDED_OFFSET(answer) ((uint32_t)((uint64_t)(answer) >> 16 & 0xFFFFu))
+#define EPD_MEND_ADDED_COUNT(answer) ((uint32_t)((uint64_t)(answer) & 0xFFFFu))
+
+/* Room for the longest list: four bytes for each byte of the four fields and of the padding. */
+#define EPD_MEND_LIST_BYTES_1_44 64u
+#define EPD_MEND_LIST_BYTES_2_0 1216u
+#define EPD_MEND_LIST_BYTES_2_7 2176u
 
 /* ---- The finish arch panels ---- */
 

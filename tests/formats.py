@@ -1,4 +1,5 @@
-"""Runs the examples of docs/FORMATS.md: the listing of a settings file, the script for replay, and the bitmap file of a slot with its palettes.
+"""Runs the examples of docs/FORMATS.md: the listing of a settings file, the mending of a bitmap, the script for replay, and the bitmap
+file of a slot with its palettes.
 
 Usage, from the repository's root: python3 -m tests.formats
 """
@@ -27,6 +28,13 @@ def listing_example(block):
     """`$ echo HEX | xxd -r -p | PROGRAM`, and what it prints."""
     file = bytes.fromhex(re.fullmatch(r"\$ echo ([0-9A-F ]+)\|.*", block[0]).group(1))
     return [("listing", run(LISTING, file).decode("ascii").splitlines(), block[1:])]
+
+
+def mend_example(block):
+    """`$ COMMAND > FILE`, and what it tells on standard error."""
+    command = block[0].removeprefix("$ ").rsplit(" > ", 1)[0]
+    told = subprocess.run(command, shell=True, stdout=subprocess.DEVNULL, stderr=subprocess.PIPE, check=True).stderr
+    return [("mending", told.decode("ascii").splitlines(), block[1:])]
 
 
 def script_example(block):
@@ -62,9 +70,10 @@ def main():
     with open(DOCUMENT, encoding="utf-8") as document:
         text = document.read()
     listing = next(block for block in blocks(text) if block[0].startswith("$ echo"))
+    mending = next(block for block in blocks(text) if "bitmap_mend" in block[0] and block[0].startswith("$ "))
     script = next(block for block in blocks(text) if block[0].startswith("open "))
     failed = passed = 0
-    for what, given, typed in (*listing_example(listing), *script_example(script), *bitmap_example(text, script)):
+    for what, given, typed in (*listing_example(listing), *mend_example(mending), *script_example(script), *bitmap_example(text, script)):
         passed += given == typed
         failed += given != typed
         if given != typed:

@@ -20,7 +20,7 @@ use Rattle.bitmap.specs.declared.Entry.{Entry}
 use Rattle.bitmap.specs.declared.Also.the-variants.{Only}
 use Rattle.bitmap.specs.Numbers.{numberBytes}
 use Rattle.bitmap.specs.Table.{fieldOf}
-use Rattle.bitmap.specs.Header.{headerLength, field, headerFields, fieldGood, fieldsBytes}
+use Rattle.bitmap.specs.Header.{headerLength, field, headerFields, fieldsBytes}
 
 -- the field at place i of the table, and what stands for one where it has none
 abbrev pub noField : Field
@@ -56,22 +56,22 @@ module _ (b h s i : ℕ) (low : i < 17) where
   pub field-small : fieldAt b h s i .size ≤ 4
   field-small = leb-true _ _ (below-all 17 (λ k. leb (fieldAt b h s k .size) 4) refl i low)
 
--- ---- the check
+-- ---- the tests of a loop that asks each field
 
-module _ (b h s : ℕ) (file : List ℕ) where
+module _ (test : Field → Bool) (b h s : ℕ) where
   abbrev pub tests : List Bool
-  tests = map (fieldGood file) (headerFields b h s)
+  tests = map test (headerFields b h s)
 
   module _ (i : ℕ) (low : i < 17) (f : Field) (e : f ≡ fieldAt b h s i) where
-    test-at : fieldGood file f ≡ getD tests i true
-    test-at = ap (fieldGood file) e ∙ at-map (fieldGood file) true (headerFields b h s) i noField low
+    test-at : test f ≡ getD tests i true
+    test-at = ap test e ∙ at-map test true (headerFields b h s) i noField low
 
-    -- a field that is not good is enough
-    pub field-bad : fieldGood file f ≡ false → every tests ≡ false
+    -- a field of which it does not hold is enough
+    pub field-bad : test f ≡ false → every tests ≡ false
     field-bad g = broken i tests (sym test-at ∙ g)
 
-    -- one field more that is good
-    pub field-next : every (take i tests) ≡ true → fieldGood file f ≡ true → every (take (i + 1) tests) ≡ true
+    -- one field more of which it holds
+    pub field-next : every (take i tests) ≡ true → test f ≡ true → every (take (i + 1) tests) ≡ true
     field-next all g = rw add-one (every-next i tests all (sym test-at ∙ g))
 
 -- ---- the writer

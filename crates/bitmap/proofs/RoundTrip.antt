@@ -149,7 +149,7 @@ module _ (b h s : ℕ) (some : 0 < b) (within : b ≤ s) where
   read-normal file = rw (← write-read file) (read-written (readPicture b h s file) (length-read b h s file))
 
 -- a field that reads as the number that is written there is good
-held : (file : List ℕ) (f : Field) → numberAt (f .size) file (f .at) ≡ f .number → fieldGood file f ≡ true
+pub held : (file : List ℕ) (f : Field) → numberAt (f .size) file (f .at) ≡ f .number → fieldGood file f ≡ true
 held file f e = rw (eq-eqb _ (f .number) e)
 
 -- the check accepts every file that is written: each field is read as it was written, since its number fits four bytes

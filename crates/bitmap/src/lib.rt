@@ -105,7 +105,7 @@ fn number_of(b: usize, h: usize, s: usize, number: Number) -> usize
 }
 
 // The field that an entry is for a picture.
-fn field_of(b: usize, h: usize, s: usize, entry: Entry) -> Field
+pub fn field_of(b: usize, h: usize, s: usize, entry: Entry) -> Field
     requires { ⌜ (b ≤ 33) × (h ≤ 176) × (s ≤ 36) ⌝ }
     ensures { λ r. ⌜ r ≡ fieldOf b h s entry ⌝ }
 {
@@ -120,7 +120,7 @@ fn field_of(b: usize, h: usize, s: usize, entry: Entry) -> Field
 }
 
 // The table, for a loop over it: where it is indexed it is laid out, so it is asked for once before the loop.
-fn table() -> [Entry; 17]
+pub fn table() -> [Entry; 17]
     ensures { λ r. ⌜ ((b h s : ℕ) → map (fieldOf b h s) r ≡ headerFields b h s) ⌝ }
 {
     FIELDS
@@ -149,7 +149,7 @@ fn number_at(size: usize, file: &[u8], at: usize) -> usize
 }
 
 // Whether a file holds in a field what it may.
-fn field_good(file: &[u8], field: Field) -> bool
+pub fn field_good(file: &[u8], field: Field) -> bool
     requires { ⌜ (field .size ≤ 4) × (field .at + field .size ≤ length (now file)) ⌝ }
     ensures { λ r. ⌜ r ≡ fieldGood (now (file .entry)) field ⌝ }
 {
@@ -199,7 +199,7 @@ fn palette_from(first: usize, second: usize) -> Palette
 }
 
 // The palette of a file.
-fn palette_of(file: &[u8]) -> Palette
+pub fn palette_of(file: &[u8]) -> Palette
     requires { ⌜ 62 ≤ length (now file) ⌝ }
     ensures { λ r. ⌜ r ≡ paletteOf (now (file .entry)) ⌝ }
 {
@@ -207,7 +207,7 @@ fn palette_of(file: &[u8]) -> Palette
 }
 
 // Whether a bitmap may have a palette.
-fn black_and_white(palette: Palette) -> bool
+pub fn black_and_white(palette: Palette) -> bool
     ensures { λ r. ⌜ r ≡ blackAndWhite palette ⌝ }
 {
     match palette {
@@ -248,7 +248,7 @@ pub fn check_bitmap(panel: u32, file: &[u8]) -> u8
 // ---- the writer
 
 // Writes a number as `size` bytes into `out`, from index `at` on.
-fn put_number(out: &mut [u8], at: usize, size: usize, n: usize)
+pub fn put_number(out: &mut [u8], at: usize, size: usize, n: usize)
     requires { ⌜ at + size ≤ length (now out) ⌝ }
     ensures { λ _. ⌜ now (out .exit) ≡ overlayAt at (numberBytes size n) (now (out .entry)) ⌝ }
 {

@@ -8,3 +8,6 @@ pub mod FinishTied
 pub mod HallWords
 pub mod HallOrder
 pub mod HallTied
+-- `MendNumber` has mending's answer as a number, and `MendTied` what is promised of it over the contracts as the source has them.
+pub mod MendNumber
+pub mod MendTied

@@ -2,3 +2,4 @@
 pub mod Words
 pub mod Finish
 pub mod Hall
+pub mod Mending

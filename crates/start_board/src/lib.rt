@@ -6,6 +6,7 @@ ghost use Rattle.bitmap.specs.Bitmap.{checkBitmap};
 
 mod finish;
 mod hall;
+mod mending;
 mod words;
 
 // The line of a picture row in a stage: 0; or 14, an argument out of range; or 11, the output too short.

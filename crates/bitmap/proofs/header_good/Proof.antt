@@ -8,12 +8,13 @@ use borrow.Author.Needs.{needs}
 use lib.ListN.{take}
 use Rattle.lists.specs.Rules.{every}
 use Rattle.lists.proofs.Rules.{refused, passed}
+use Rattle.bitmap.specs.Header.{fieldGood}
 use Rattle.bitmap.proofs.Fields.{fieldAt, entry-at, field-within, field-small, tests, field-bad, field-next}
 use Rattle.bitmap.proofs.header_good.Statement.{statement}
 use Rattle.bitmap.proofs.header_good.Tie as tie
 
 abbrev Inv-loop : tie.InvT-loop
-Inv-loop b h s file fields i₀ i = (i ≤ 17) × (every (take i (tests b h s file)) ≡ true)
+Inv-loop b h s file fields i₀ i = (i ≤ 17) × (every (take i (tests (fieldGood file) b h s)) ≡ true)
 
 abbrev μ-loop : tie.MeasureT-loop
 μ-loop b h s file fields i₀ i = 17 - i
@@ -58,7 +59,7 @@ returns : tie.Need-returns Inv-loop μ-loop
 returns c =
     let f = c .before .before in
     let a = f .before .before .before .before .before .before .args in
-    sym (field-bad (a .b) (a .h) (a .s) (a .file .now) (f .before .before .before .loop .i) (low f) _ (at-place f)
+    sym (field-bad (fieldGood (a .file .now)) (a .b) (a .h) (a .s) (f .before .before .before .loop .i) (low f) _ (at-place f)
     (refused (c .before .field-good .ensures) (c .if1 .taken)))
 
 add-i : tie.Need-add-i Inv-loop μ-loop
@@ -73,7 +74,7 @@ loop-again c =
     let l = f .before .before .before .loop in
     let a = f .before .before .before .before .before .before .args in (
       omega arith,
-      field-next (a .b) (a .h) (a .s) (a .file .now) (l .i) (low f) _ (at-place f) (l .inv .1) (passed (c .before .field-good .ensures) (c .if1 .left)),
+      field-next (fieldGood (a .file .now)) (a .b) (a .h) (a .s) (l .i) (low f) _ (at-place f) (l .inv .1) (passed (c .before .field-good .ensures) (c .if1 .left)),
     )
 
 returns-2 : tie.Need-returns-2 Inv-loop μ-loop

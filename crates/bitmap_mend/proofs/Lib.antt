@@ -1,0 +1,2 @@
+-- The sizes that an answer tells of fit the rooms.
+pub mod Sizes
