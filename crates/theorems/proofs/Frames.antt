@@ -129,7 +129,7 @@ abbrev memoryBy : Event → List ℕ
 memoryBy (event call memory given put) = memory
 
 -- a call sees the memory that it was lent, leaves the pictures, and has nothing to come where it answers done
-record Leaves (file shown new : List ℕ) (slot : ℕ) (memory : List ℕ) (called : Called) : Type 0 where
+record KeepsPictures (file shown new : List ℕ) (slot : ℕ) (memory : List ℕ) (called : Called) : Type 0 where
   pub lent : memoryBy (called .seen) ≡ memory
   pub holds : Holds file shown new slot (called .memory) (called .state .store .phase)
   pub over : isDoneBy (called .seen) ≡ true → thingsIn file (called .state .store .phase) ≡ []
@@ -151,7 +151,7 @@ refused-done (answered answer.Done) e d = false≢true (sym e)
 module _ (state : State) (memory shown new : List ℕ) (slot : ℕ) (on : runsOn (state .store .phase) slot ≡ true)
     (holds : Holds (fileOf state) shown new slot memory (state .store .phase)) where
   abbrev Left : Called → Type 0
-  Left = Leaves (fileOf state) shown new slot memory
+  Left = KeepsPictures (fileOf state) shown new slot memory
 
   -- the phase stays, and no run is done
   stays : (call : Call) (given : Given) → (isDone given ≡ true → ⊥) → (memory′ out′ : List ℕ)
@@ -264,7 +264,7 @@ module _ (file shown new : List ℕ) (slot : ℕ) where
       subst (λ (s : List ℕ). Onward s slot (thingsIn s (state .store .phase)) (callOn state memory call)) e
       (call-on state memory slot ok on call quiet) in
       let left =
-      subst (λ (s : List ℕ). Holds s shown new slot memory (state .store .phase) → Leaves s shown new slot memory (callOn state memory call)) e
+      subst (λ (s : List ℕ). Holds s shown new slot memory (state .store .phase) → KeepsPictures s shown new slot memory (callOn state memory call)) e
       (λ p. effect-leaves state memory shown new slot on p (effect state memory call) quiet) holds in
       let later =
       all-shown (now .state) (one .file-kept) (stays-valid state memory ok call) (one .slot-kept) (now .memory) (left .holds) calls

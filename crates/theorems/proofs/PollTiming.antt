@@ -249,9 +249,9 @@ module _ (file : List ℕ) (n : ℕ) (run : Run) (tick : Tick) (memory output : 
     hands (Stop k) at = stop-hands k (fromWrite (drop k (stopSteps file))) at refl
 
   -- before the due moment: exactly what is still to go
-  pub early-waits : moment .0 < dueOf file run
+  pub early-keeps : moment .0 < dueOf file run
       → Keeps (run .next) (outcome (answer.Wait (dueOf file run - moment .0)) (Running (waited run tick moment)) memory output)
-  early-waits early =
+  early-keeps early =
       let is = due-at (run .next) refl in
       let here = due-here file run refl in
       let now = by-now in (
@@ -272,5 +272,5 @@ module _ (file : List ℕ) (n : ℕ) (run : Run) (tick : Tick) (memory output : 
       )
 
   -- from the due moment on: the next thing
-  pub late-hands : dueOf file run ≤ moment .0 → KeepsTime file (run .slot) (watchOf file run) tick memory (handOut file run tick moment memory output (run .next))
-  late-hands due = hands due (run .next) refl
+  pub late-keeps : dueOf file run ≤ moment .0 → KeepsTime file (run .slot) (watchOf file run) tick memory (handOut file run tick moment memory output (run .next))
+  late-keeps due = hands due (run .next) refl

@@ -31,12 +31,12 @@ use Rattle.theorems.specs.Timing.{Observed, noRun, aRun, watchAtStart, o
 use Rattle.theorems.specs.Past.{StateOnTime, watchOf, observedIn}
 use Rattle.theorems.proofs.Kept.{stays-valid, valid-kept, opened-valid}
 use Rattle.theorems.proofs.Progress.{refused-hands}
-use Rattle.theorems.proofs.PollTiming.{KeepsTime, early-waits, late-hands}
+use Rattle.theorems.proofs.PollTiming.{KeepsTime, early-keeps, late-keeps}
 
 -- ---- every call
 
 -- a call keeps the settings file, its event is on time, and what is observed stays what the fields say
-record Onward (file : List ℕ) (observed : Observed) (called : Called) : Type 0 where
+record InStep (file : List ℕ) (observed : Observed) (called : Called) : Type 0 where
   pub file-kept : fileOf (called .state) ≡ file
   pub timely : Timely 0 file observed (called .seen)
   pub follows : observedAfter file observed (called .seen) ≡ observedIn file (called .state .store .phase)
@@ -66,7 +66,7 @@ refused-follows file observed noPart given e = refl
 
 module _ (state : State) (memory : List ℕ) (valid : stateValid state ≡ true) where
   abbrev On : Called → Type 0
-  On = Onward (fileOf state) (observedIn (fileOf state) (state .store .phase))
+  On = InStep (fileOf state) (observedIn (fileOf state) (state .store .phase))
 
   -- a call that has no part in a run
   apart : (call : Call) → partOf call ≡ noPart → (memory′ out′ : List ℕ) → On (leaving call memory (number 0) state memory′ out′)
@@ -108,14 +108,14 @@ module _ (state : State) (memory : List ℕ) (valid : stateValid state ≡ true)
       let ok = run-of state run valid (at .runs) in
       of-run tick out run (at .runs) (waiting tick out run moment)
       (subst (λ (m : Passed). KeepsTime file (run .slot) (watchOf file run) tick memory (waiting tick out run m)) (sym (at .is))
-      (early-waits file (state .store .slots) run tick memory out good ok (subst (λ (m : Passed). m .0 < dueOf file run) (at .is) before)))
+      (early-keeps file (state .store .slots) run tick memory out good ok (subst (λ (m : Passed). m .0 < dueOf file run) (at .is) before)))
   effect-on (effects.hands tick out run moment at due) =
       let file = fileOf state in
       let good = valid-state state valid .good in
       let ok = run-of state run valid (at .runs) in
       of-run tick out run (at .runs) (handing tick out run moment)
       (subst (λ (m : Passed). KeepsTime file (run .slot) (watchOf file run) tick memory (handing tick out run m)) (sym (at .is))
-      (late-hands file (state .store .slots) run tick memory out good ok (subst (λ (m : Passed). dueOf file run ≤ m .0) (at .is) due)))
+      (late-keeps file (state .store .slots) run tick memory out good ok (subst (λ (m : Passed). dueOf file run ≤ m .0) (at .is) due)))
 
 -- ---- every list of calls
 
@@ -125,7 +125,7 @@ all-on-time file state e valid memory [] = none
 all-on-time file state e valid memory (call ∷ calls) =
     let now = callOn state memory call in
     let one =
-    subst (λ (s : List ℕ). Onward s (observedIn s (state .store .phase)) (callOn state memory call)) e
+    subst (λ (s : List ℕ). InStep s (observedIn s (state .store .phase)) (callOn state memory call)) e
     (effect-on state memory valid (effect state memory call)) in
     more (one .timely)
     (subst (λ (o : Observed). AllTimely 0 file o (eventsOf (now .state) (now .memory) calls)) (sym (one .follows))

@@ -34,10 +34,10 @@ use Rattle.board.specs.declared.State.{State}
 -- ---- the stores of the table
 
 -- the example file, with one slot beside slot 0, all white
-abbrev small : State
+abbrev pub small : State
 small = openedState example 1
 
-abbrev smallMemory : List ℕ
+abbrev pub smallMemory : List ℕ
 smallMemory = replicate 3072 0xFF
 
 -- the same for the 2" panel
@@ -51,7 +51,7 @@ wide = openedState wideExample 1
 abbrev wideMemory : List ℕ
 wideMemory = replicate 4800 0xFF
 
-abbrev tickAt : ℕ → Tick
+abbrev pub tickAt : ℕ → Tick
 tickAt n = record { 0 = n }
 
 -- the number of a region upload to slot 1, one row high, and the first two bytes of the slot after it

@@ -12,19 +12,15 @@ use Rattle.run.specs.Clock.{stepFrom, clockRefused}
 use Rattle.run.specs.Place.{nextPosition}
 use Rattle.run.specs.Due.{dueOf}
 use Rattle.run.specs.Conditions.{runValid}
-use Rattle.run.specs.declared.Tick.{Tick}
 use Rattle.run.specs.declared.Position.{Position}
 use Rattle.run.specs.declared.Position.the-variants.{Line, Stop}
 use Rattle.poll.specs.Poll.{pollAt, pollRun}
-use Rattle.board.specs.State.{stateValid, openedState}
+use Rattle.board.specs.State.{stateValid}
 use Rattle.board.specs.Calls.{starting, polled}
 use Rattle.board.specs.History.{Call, start, poll, Event, eventsOf}
-use Rattle.board.specs.declared.State.{State}
 use Rattle.theorems.specs.Timing.{known, dueFrom, Watch, Observed, noRun, aRun, watchAtStart, nowAt, dueNext, observedAfter}
 use Rattle.theorems.specs.Past.{itemsFrom}
-
-abbrev tickAt : ℕ → Tick
-tickAt n = record { 0 = n }
+use Rattle.theorems.proofs.Worked.{small, smallMemory, tickAt}
 
 -- all up to a place was handed out, the last of it at a moment that has this reading, F being 0
 abbrev watchedAt : (reading moment : ℕ) → Position → Watch
@@ -32,12 +28,6 @@ watchedAt reading moment position =
     record { last = tickAt reading; passed = moment; handed = moment; first = known 0; toCome = itemsFrom example position }
 
 -- ---- a history: the start at 4294967285, and polls
-
-abbrev store : State
-store = openedState example 1
-
-abbrev memory : List ℕ
-memory = replicate 3072 0xFF
 
 abbrev pollAtTick : ℕ → Call
 pollAtTick n = poll (tickAt n) (replicate 117 0)
@@ -51,7 +41,7 @@ watchIn noRun = watchAtStart example (tickAt 0)
 watchIn (aRun slot watch) = watch
 
 abbrev watched : List Call → Watch
-watched calls = watchIn (observedAll noRun (eventsOf store memory (start 1 (tickAt 4294967285) ∷ calls)))
+watched calls = watchIn (observedAll noRun (eventsOf small smallMemory (start 1 (tickAt 4294967285) ∷ calls)))
 
 -- two writes at 4294967285 and 4294967287, the first line at 4294967290, one more line at 10
 abbrev fourPolls : Watch
