@@ -1,32 +1,31 @@
 -- One branch of the code that reads a step, as one law.
 -- Assumes nothing.
-use mathlib.Core.Path.{_≡_}
+use mathlib.Core.Path.{_≡_, ap}
 use mathlib.Core.Bool.{Bool, true, false, and-false}
 use mathlib.Core.List.{List, [], _∷_}
 use Prim.Native.Nat.{ℕ, _+_, _-_, _*_, _≤_, _<_}
 use native.Mathlib.Nat.{add-zero}
+use native.Mathlib.Decide.{ℕ-discrete}
 use native.Mathlib.Omega.{arith}
 use borrow.Author.Tests.{eq-eqb, ne-eqb, le-leb, lt-leb, lt-ltb}
+use lib.Dec.{leb}
 use lib.ListN.{length, getD, drop, length-drop}
 use lib.Seq.{getD-drop, drop-drop}
 use Rattle.panel.specs.Registers.{dataLength, channelData, gateSourceLevel}
-use Rattle.settings.specs.Settings.{hasPrefix, requiredData, writeOf, waitOf, stepOf}
-use Rattle.settings.specs.Facts.{kindOf}
-use Rattle.settings.specs.declared.Kind.{Kind}
-use Rattle.settings.specs.declared.Kind.the-variants.{Write, Wait, Malformed}
+use Rattle.settings.specs.Settings.{hasPrefix, requiredData, writeOf, waitOf, stepOf, sizeOf}
 
 -- ---- a wait
 
 module _ (ms : ℕ) where
-  pub no-wait : ms < 1 → Malformed ≡ kindOf (waitOf ms)
+  pub no-wait : ms < 1 → 0 ≡ sizeOf (waitOf ms)
   unfolding waitOf
   no-wait h = rw (lt-leb 1 ms h)
 
-  pub long-wait : 1000 < ms → Malformed ≡ kindOf (waitOf ms)
+  pub long-wait : 1000 < ms → 0 ≡ sizeOf (waitOf ms)
   unfolding waitOf
   long-wait h = rw (lt-leb ms 1000 h, and-false)
 
-  pub good-wait : 1 ≤ ms → ms ≤ 1000 → Wait ms ≡ kindOf (waitOf ms)
+  pub good-wait : 1 ≤ ms → ms ≤ 1000 → 3 ≡ sizeOf (waitOf ms)
   unfolding waitOf
   good-wait low high = rw (le-leb 1 ms low, le-leb ms 1000 high)
 
@@ -45,46 +44,63 @@ module _ (panel register : ℕ) where
   unfolding requiredData
   asked-nothing d e = rw (ne-eqb register 0x01 d, ne-eqb register 0x04 e)
 
--- ---- a write, of a register with n bytes of data from index `at` on
+  -- they are as many bytes as the register takes
+  pub channels-long : register ≡ 0x01 → dataLength register ≡ 8
+  unfolding dataLength
+  channels-long e = rw e
+
+  pub level-long : register ≡ 0x04 → dataLength register ≡ 1
+  unfolding dataLength
+  level-long e = rw e
+
+-- ---- a write at index `at`, of a register with n bytes of data
 
 module _ (panel register : ℕ) (file : List ℕ) (at n : ℕ) (is : n ≡ dataLength register) where
-  pub no-such-register : n ≡ 0 → Malformed ≡ kindOf (writeOf panel register (drop at file))
+  pub no-such-register : n ≡ 0 → 0 ≡ sizeOf (writeOf panel register (drop (at + 2) file))
   unfolding writeOf
   no-such-register e = rw (← is, e)
 
-  pub short-data : length file - at < n → Malformed ≡ kindOf (writeOf panel register (drop at file))
+  pub short-data : length file - at < 2 + n → 0 ≡ sizeOf (writeOf panel register (drop (at + 2) file))
   unfolding writeOf
-  short-data h = rw (← is, length-drop, lt-leb n (length file - at) h, and-false)
+  short-data h =
+      elim (ℕ-discrete n 0) [
+        | yes e ↦ no-such-register e
+        | no d ↦ rw (← is, length-drop, lt-leb n (length file - (at + 2)) (omega arith), and-false)
+      ]
 
-  module _ (some : n ≡ 0 → ⊥) (whole : n ≤ length file - at) (good : Bool) (q : good ≡ hasPrefix (drop at file) (requiredData panel register)) where
-    pub good-data : good ≡ true → Write register ≡ kindOf (writeOf panel register (drop at file))
-    unfolding writeOf
-    good-data e = rw (← is, length-drop, lt-ltb 0 n (omega arith), le-leb n (length file - at) whole, ← q, e)
+  module _ (some : n ≡ 0 → ⊥) (whole : 2 + n ≤ length file - at)
+      (good : Bool) (q : good ≡ hasPrefix (drop (at + 2) file) (requiredData panel register)) where
+    fits : leb n (length file - (at + 2)) ≡ true
+    fits = le-leb n (length file - (at + 2)) (omega arith)
 
-    pub foreign-data : good ≡ false → Malformed ≡ kindOf (writeOf panel register (drop at file))
+    pub good-data : good ≡ true → 2 + n ≡ sizeOf (writeOf panel register (drop (at + 2) file))
     unfolding writeOf
-    foreign-data e = rw (← is, length-drop, lt-ltb 0 n (omega arith), le-leb n (length file - at) whole, ← q, e)
+    good-data e = rw (← is, length-drop, lt-ltb 0 n (omega arith), fits, ← q, e) (ap (λ m. 2 + m) is)
+
+    pub foreign-data : good ≡ false → 0 ≡ sizeOf (writeOf panel register (drop (at + 2) file))
+    unfolding writeOf
+    foreign-data e = rw (← is, length-drop, lt-ltb 0 n (omega arith), fits, ← q, e)
 
 -- ---- a step, at index `at`
 
 module _ (panel : ℕ) (file : List ℕ) (at : ℕ) where
-  pub short-step : length file - at < 3 → Malformed ≡ kindOf (stepOf panel (drop at file))
+  pub short-step : length file - at < 3 → 0 ≡ sizeOf (stepOf panel (drop at file))
   unfolding stepOf
   short-step h = rw (length-drop, lt-leb 3 (length file - at) h)
 
   module _ (long : 3 ≤ length file - at) where
-    pub write-step : (kind : Kind) → getD file at 0 ≡ 0x57
-        → kind ≡ kindOf (writeOf panel (getD file (at + 1) 0) (drop (at + 2) file)) → kind ≡ kindOf (stepOf panel (drop at file))
+    pub write-step : (z : ℕ) → getD file at 0 ≡ 0x57
+        → z ≡ sizeOf (writeOf panel (getD file (at + 1) 0) (drop (at + 2) file)) → z ≡ sizeOf (stepOf panel (drop at file))
     unfolding stepOf
-    write-step kind e k =
+    write-step z e k =
         simp (length-drop, le-leb 3 (length file - at) long, getD-drop, add-zero, drop-drop, eq-eqb _ _ e) k
 
-    pub wait-step : (kind : Kind) → (getD file at 0 ≡ 0x57 → ⊥) → getD file at 0 ≡ 0x44
-        → kind ≡ kindOf (waitOf (getD file (at + 1) 0 * 256 + getD file (at + 2) 0)) → kind ≡ kindOf (stepOf panel (drop at file))
+    pub wait-step : (z : ℕ) → (getD file at 0 ≡ 0x57 → ⊥) → getD file at 0 ≡ 0x44
+        → z ≡ sizeOf (waitOf (getD file (at + 1) 0 * 256 + getD file (at + 2) 0)) → z ≡ sizeOf (stepOf panel (drop at file))
     unfolding stepOf
-    wait-step kind d e k =
+    wait-step z d e k =
         simp (length-drop, le-leb 3 (length file - at) long, getD-drop, add-zero, ne-eqb _ _ d, eq-eqb _ _ e) k
 
-    pub no-step : (getD file at 0 ≡ 0x57 → ⊥) → (getD file at 0 ≡ 0x44 → ⊥) → Malformed ≡ kindOf (stepOf panel (drop at file))
+    pub no-step : (getD file at 0 ≡ 0x57 → ⊥) → (getD file at 0 ≡ 0x44 → ⊥) → 0 ≡ sizeOf (stepOf panel (drop at file))
     unfolding stepOf
     no-step d e = simp (length-drop, le-leb 3 (length file - at) long, getD-drop, add-zero, ne-eqb _ _ d, ne-eqb _ _ e)

@@ -11,9 +11,6 @@ use lib.Seq.{drop-cons}
 use Rattle.settings.specs.Settings.{hasPrefix}
 
 module _ (s p : List ℕ) (k i : ℕ) where
-  pub prefix-short : length s ≤ k → i < length p → hasPrefix (drop k s) (drop i p) ≡ false
-  prefix-short h l = rw (drop-of-length-le s h, drop-cons p i 0 l)
-
   pub prefix-differs : k < length s → i < length p → (getD s k 0 ≡ getD p i 0 → ⊥)
       → hasPrefix (drop k s) (drop i p) ≡ false
   prefix-differs h l n = rw (drop-cons s k 0 h, drop-cons p i 0 l, ne-eqb _ _ n)

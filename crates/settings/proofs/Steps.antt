@@ -7,7 +7,7 @@ use Prim.Native.Nat.{ℕ, zero, suc, _+_, _-_, _*_, _≤_, _<_}
 use native.Mathlib.Nat.{sub-zero, suc-sub-suc}
 use native.Mathlib.Numerals.{sub-one}
 use native.Mathlib.Omega.{arith}
-use borrow.Author.Tests.{leb-true, ltb-true}
+use borrow.Author.Tests.{leb-true, ltb-true, eqb-true}
 use lib.Dec.{eqb, leb, ltb}
 use lib.ListN.{length, getD, take, drop, length-take, length-drop}
 use lib.Seq.{drop-drop}
@@ -15,20 +15,22 @@ use Rattle.lists.proofs.Rules.{and-left, and-right, by-test}
 use Rattle.panel.specs.Registers.{dataLength}
 use Rattle.panel.proofs.Registers.{data-length-le}
 use Rattle.settings.specs.Settings.{Step, write, wait, malformed, hasPrefix, requiredData, writeOf, waitOf, stepOf, sizeOf, stepsOf, restOf, isStep, allSteps, isWriteTo, writesTo}
-use Rattle.settings.specs.Facts.{kindOf, kindSize, kindWritesTo}
+use Rattle.settings.specs.Facts.{kindOf, kindSize}
 use Rattle.settings.specs.declared.Kind.{Kind}
 use Rattle.settings.specs.declared.Kind.the-variants.{Write, Wait}
 
 -- ---- what a step can be
 
--- the step that s begins with is a write with its data, a wait of 1 to 1,000 ms, or malformed
-pub step-cases : (panel : ℕ) (s : List ℕ) (P : Step → Type 0)
-    → ((register n : ℕ) → n ≡ dataLength register → 0 < n → 2 + n ≤ length s → P (write register (take n (drop 2 s))))
-    → ((ms : ℕ) → 3 ≤ length s → 1 ≤ ms → ms ≤ 1000 → P (wait ms))
+-- the step that s begins with, by its bytes: a write with its data, a wait of 1 to 1,000 ms, or malformed
+pub step-bytes : (panel : ℕ) (s : List ℕ) (P : Step → Type 0)
+    → (getD s 0 0 ≡ 0x57 → (n : ℕ) → n ≡ dataLength (getD s 1 0) → 0 < n → 2 + n ≤ length s
+    → P (write (getD s 1 0) (take n (drop 2 s))))
+    → (getD s 0 0 ≡ 0x44 → (ms : ℕ) → ms ≡ getD s 1 0 * 256 + getD s 2 0 → 3 ≤ length s → 1 ≤ ms → ms ≤ 1000
+    → P (wait ms))
     → P malformed
     → P (stepOf panel s)
 unfolding stepOf writeOf waitOf
-step-cases panel s P ifWrite ifWait none =
+step-bytes panel s P ifWrite ifWait none =
     let tag = getD s 0 0 in
     let r = getD s 1 0 in
     let n = dataLength r in
@@ -46,17 +48,27 @@ step-cases panel s P ifWrite ifWait none =
     (λ q.
     let both = and-left (ltb 0 n && within) good q in
     let fits : n ≤ length (drop 2 s) = leb-true _ _ (and-right (ltb 0 n) within both) in
-    ifWrite r n refl (ltb-true _ _ (and-left (ltb 0 n) within both)) (omega (arith, length-drop 2 s)))
+    ifWrite (eqb-true _ _ t) n refl (ltb-true _ _ (and-left (ltb 0 n) within both)) (omega (arith, length-drop 2 s)))
     (λ q. none))
     (λ t.
     by-test P (eqb tag 0x44) (cond (leb 1 ms && leb ms 1000) (wait ms) malformed) malformed
     (λ u.
     by-test P (leb 1 ms && leb ms 1000) (wait ms) malformed
     (λ q.
-    ifWait ms long (leb-true _ _ (and-left (leb 1 ms) (leb ms 1000) q)) (leb-true _ _ (and-right (leb 1 ms) (leb ms 1000) q)))
+    ifWait (eqb-true _ _ u) ms refl long
+    (leb-true _ _ (and-left (leb 1 ms) (leb ms 1000) q))
+    (leb-true _ _ (and-right (leb 1 ms) (leb ms 1000) q)))
     (λ q. none))
     (λ u. none)))
     (λ e. none)
+
+-- the same, whatever the bytes
+pub step-cases : (panel : ℕ) (s : List ℕ) (P : Step → Type 0)
+    → ((register n : ℕ) → n ≡ dataLength register → 0 < n → 2 + n ≤ length s → P (write register (take n (drop 2 s))))
+    → ((ms : ℕ) → 3 ≤ length s → 1 ≤ ms → ms ≤ 1000 → P (wait ms))
+    → P malformed
+    → P (stepOf panel s)
+step-cases panel s P ifWrite ifWait = step-bytes panel s P (λ t. ifWrite (getD s 1 0)) (λ t ms e. ifWait ms)
 
 -- it lies within s
 pub size-fits : (panel : ℕ) (s : List ℕ) → sizeOf (stepOf panel s) ≤ length s
@@ -69,11 +81,6 @@ kind-size : (step : Step) → kindSize (kindOf step) ≡ sizeOf step
 kind-size (write r d) = refl
 kind-size (wait ms) = refl
 kind-size malformed = refl
-
-kind-writes-to : (register : ℕ) (step : Step) → kindWritesTo register (kindOf step) ≡ isWriteTo register step
-kind-writes-to register (write r d) = refl
-kind-writes-to register (wait ms) = refl
-kind-writes-to register malformed = refl
 
 -- a step of which only the kind is known: a write has the bytes that follow its first two, a wait is 1 to 1,000 ms
 pub step-write : (panel register : ℕ) (s : List ℕ) → kindOf (stepOf panel s) ≡ Write register
@@ -156,10 +163,10 @@ pub record Turn (panel : ℕ) (file : List ℕ) (at n : ℕ) (kind : Kind) (z : 
   pub read : kind ≡ kindOf (stepOf panel (drop at file))
   pub size : z ≡ kindSize kind
 
--- the step that was read stands at the index where the first one does
-pub one-step : (panel : ℕ) (file : List ℕ) {at end : ℕ} {kind : Kind} → kind ≡ kindOf (stepOf panel (drop end file)) → end ≡ at
-    → kind ≡ kindOf (stepOf panel (drop at file))
-one-step panel file e f = e ∙ ap (λ (i : ℕ). kindOf (stepOf panel (drop i file))) f
+-- of a step of which only the size was read
+pub turn-of : (panel : ℕ) (file : List ℕ) (at : ℕ) {n z : ℕ} → 0 < n → z ≡ sizeOf (stepOf panel (drop at file))
+    → Turn panel file at n (kindOf (stepOf panel (drop at file))) z
+turn-of panel file at h e = record { more = h; read = refl; size = e ∙ sym (kind-size (stepOf panel (drop at file))) }
 
 module _ {panel : ℕ} {file : List ℕ} {at n : ℕ} {kind : Kind} {z : ℕ} (turn : Turn panel file at n kind z) where
   pub sized : z ≡ sizeOf (stepOf panel (drop at file))
@@ -184,9 +191,10 @@ module _ {panel : ℕ} {file : List ℕ} {at n : ℕ} {kind : Kind} {z : ℕ} (t
   stuck-rest h = rest-stuck panel n (drop at file) (sym sized ∙ h)
 
   -- a register is written up to this step or after it just when it was written before or is by one of the n steps
-  pub next-writes : (register : ℕ) (before : Bool) {so-far : Bool} → so-far ≡ (before || kindWritesTo register kind)
-      → (so-far || writesTo register (stepsOf panel (n - 1) (drop (at + z) file))) ≡ (before || writesTo register (stepsOf panel n (drop at file)))
-  next-writes register before e = rw (e, turn .read, kind-writes-to, or-assoc, next-steps)
+  pub next-writes : (register : ℕ) (before : Bool) {so-far : Bool} → so-far ≡ (before || isWriteTo register (stepOf panel (drop at file)))
+      → (so-far || writesTo register (stepsOf panel (n - 1) (drop (at + z) file)))
+      ≡ (before || writesTo register (stepsOf panel n (drop at file)))
+  next-writes register before e = rw (e, or-assoc, next-steps)
 
 -- where all are steps, so are those after the first k
 pub all-from : (k : ℕ) (steps : List Step) → allSteps steps ≡ true → allSteps (drop k steps) ≡ true

@@ -2,13 +2,13 @@
 -- Assumes nothing.
 use Prim.Native.Nat.{ℕ, _+_, _≤_, _<_, _^_}
 use mathlib.Core.Path.{_≡_}
-use mathlib.Core.Bool.{Bool, true, false}
+use mathlib.Core.Bool.{Bool, true, cond}
 use mathlib.Core.List.{List}
 use lib.Dec.{eqb}
-use lib.ListN.{length, drop}
+use lib.ListN.{length, drop, set}
 use Rattle.lists.specs.Rules.{every}
 use Rattle.panel.specs.Registers.{dataLength}
-use Rattle.settings.specs.Settings.{Step, write, wait, malformed, stepOf, stepsOf, restOf, allSteps, writesTo, panelOf, stopSection, startStepRules, settingsGood}
+use Rattle.settings.specs.Settings.{Step, write, wait, malformed, stepsOf, restOf, allSteps, writesTo, panelOf, stopSection, startStepRules, settingsGood}
 use Rattle.settings.specs.Steps.{waitsBefore, fromWrite}
 use Rattle.settings.specs.declared.Kind.{Kind}
 use Rattle.settings.specs.declared.Kind.the-variants.{Write, Wait, Malformed}
@@ -27,19 +27,17 @@ kindSize (Write register) = 2 + dataLength register
 kindSize (Wait ms) = 3
 kindSize Malformed = 0
 
-abbrev pub kindWritesTo : (register : ℕ) → Kind → Bool
-kindWritesTo register (Write r) = eqb r register
-kindWritesTo register (Wait ms) = false
-kindWritesTo register Malformed = false
+-- for each register whether it is written so far, after a step that begins with this tag and this byte
+abbrev pub marked : (tag register : ℕ) (written : List Bool) → List Bool
+marked tag register written = cond (eqb tag 0x57) (set written register true) written
 
--- n steps from index `at` on were passed: where they end, whether they write the channels and the level, and, of one step, what it is
+-- n steps from index `at` on were passed: where they end, and whether they write the channels and the level
 pub record StepsPassed (panel n at : ℕ) (file : List ℕ) (r : StepsEnd) : Type 0 where
   pub good : r .ok ≡ allSteps (stepsOf panel n (drop at file))
   pub within : r .end ≤ length file
   pub rest : drop (r .end) file ≡ restOf panel n (drop at file)
   pub channels : r .ok ≡ true → r .channels ≡ writesTo 0x01 (stepsOf panel n (drop at file))
   pub level : r .ok ≡ true → r .level ≡ writesTo 0x04 (stepsOf panel n (drop at file))
-  pub one : n ≡ 1 → r .last ≡ kindOf (stepOf panel (drop at file))
 
 -- a file whose steps can be read
 pub record Readable (file : List ℕ) : Type 0 where

@@ -1,9 +1,10 @@
 // The settings file: the check of its rules, and the reading of its steps.
 ghost use mathlib.Core.Path.{_≡_};
-ghost use mathlib.Core.Bool.{_||_, false};
+ghost use mathlib.Core.Bool.{false};
 ghost use Prim.Native.Nat.{_+_, _-_, _*_, _≤_, _<_};
 ghost use Rattle.lists.specs.Rules.{every};
-ghost use lib.ListN.{length, drop};
+ghost use Rattle.panel.specs.Registers.{dataLength};
+ghost use lib.ListN.{length, getD, drop};
 ghost use Rattle.settings.specs.Settings.{
   Step,
   write,
@@ -12,6 +13,7 @@ ghost use Rattle.settings.specs.Settings.{
   writeOf,
   waitOf,
   stepOf,
+  sizeOf,
   stepsOf,
   panelOf,
   longestFile,
@@ -24,7 +26,7 @@ ghost use Rattle.settings.specs.Kept.{noSettings, keptSettings};
 ghost use Rattle.settings.specs.Facts.{
   kindOf,
   kindSize,
-  kindWritesTo,
+  marked,
   StepsPassed,
   Readable,
   StopAt,
@@ -42,16 +44,13 @@ pub enum Kind {
     Malformed,
 }
 
-// Whether the bytes of a file from index `at` on begin with `prefix`.
+// Whether the bytes of a file from index `at` on begin with `prefix`, which is no longer than they are.
 fn has_prefix(file: &[u8], at: usize, prefix: &[u8]) -> bool
-    requires { ⌜ at ≤ length (now file) ⌝ }
+    requires { ⌜ at + length (now prefix) ≤ length (now file) ⌝ }
     ensures { λ r. ⌜ r ≡ hasPrefix (drop at (now (file .entry))) (now (prefix .entry)) ⌝ }
 {
     let mut i = 0;
     while i < prefix.len() {
-        if file.len() - at <= i {
-            return false;
-        }
         if file[at + i] != prefix[i] {
             return false;
         }
@@ -60,9 +59,9 @@ fn has_prefix(file: &[u8], at: usize, prefix: &[u8]) -> bool
     true
 }
 
-// Whether the data from index `at` on are what this panel asks of the register.
+// Whether a register's data, from index `at` on, are what this panel asks of it.
 fn data_good(file: &[u8], at: usize, panel: usize, register: u8) -> bool
-    requires { ⌜ (panel < 3) × (at ≤ length (now file)) ⌝ }
+    requires { ⌜ (panel < 3) × (at + dataLength register ≤ length (now file)) ⌝ }
     ensures { λ r. ⌜ r ≡ hasPrefix (drop at (now (file .entry))) (requiredData panel register) ⌝ }
 {
     if register == 0x01 {
@@ -76,55 +75,64 @@ fn data_good(file: &[u8], at: usize, panel: usize, register: u8) -> bool
     true
 }
 
-// The write of a register whose data stand from index `at` on.
-fn write_at(file: &[u8], at: usize, panel: usize, register: u8) -> Kind
+// How many bytes a write of a register takes, which stands at index `at`; 0 where it is none.
+fn write_size(file: &[u8], at: usize, panel: usize, register: u8) -> usize
     requires { ⌜ (panel < 3) × (at ≤ length (now file)) ⌝ }
-    ensures { λ r. ⌜ r ≡ kindOf (writeOf panel register (drop at (now (file .entry)))) ⌝ }
+    ensures { λ r. ⌜ r ≡ sizeOf (writeOf panel register (drop (at + 2) (now (file .entry)))) ⌝ }
 {
     let n = panel::data_length(register);
     if n == 0 {
-        return Kind::Malformed;
+        return 0;
     }
-    if file.len() - at < n {
-        return Kind::Malformed;
+    if file.len() - at < 2 + n {
+        return 0;
     }
-    if data_good(file, at, panel, register) {
-        return Kind::Write(register);
+    if data_good(file, at + 2, panel, register) {
+        return 2 + n;
     }
-    Kind::Malformed
+    0
 }
 
-fn wait_of(high: u8, low: u8) -> Kind
-    ensures { λ r. ⌜ r ≡ kindOf (waitOf (high * 256 + low)) ⌝ }
+// The ms of a wait, from its two bytes.
+fn wait_ms(high: u8, low: u8) -> u32
+    ensures { λ r. ⌜ (r ≡ high * 256 + low) × (r ≤ 65535) ⌝ }
 {
-    let ms = (high as u16) * 256 + (low as u16);
+    (high as u32) * 256 + (low as u32)
+}
+
+// How many bytes a wait takes; 0 where it is none.
+fn wait_size(high: u8, low: u8) -> usize
+    ensures { λ r. ⌜ r ≡ sizeOf (waitOf (high * 256 + low)) ⌝ }
+{
+    let ms = wait_ms(high, low);
     if ms < 1 {
-        return Kind::Malformed;
+        return 0;
     }
     if 1000 < ms {
-        return Kind::Malformed;
+        return 0;
     }
-    Kind::Wait(ms)
+    3
 }
 
-// The step at a place of the file. Only the loop of `pass_steps` calls it, so that it is compiled into that loop.
-fn read_step(file: &[u8], at: usize, panel: usize) -> Kind
+// How many bytes the step at a place of the file takes; 0 where there is none. Only the loop of `pass_steps` calls it, so that it is
+// compiled into that loop: all the tests of a settings file are made anew at every call on a store.
+fn step_size(file: &[u8], at: usize, panel: usize) -> usize
     requires { ⌜ (panel < 3) × (at ≤ length (now file)) ⌝ }
-    ensures { λ r. ⌜ r ≡ kindOf (stepOf panel (drop at (now (file .entry)))) ⌝ }
+    ensures { λ r. ⌜ r ≡ sizeOf (stepOf panel (drop at (now (file .entry)))) ⌝ }
 {
     if file.len() - at < 3 {
-        return Kind::Malformed;
+        return 0;
     }
     let tag = file[at];
     let first = file[at + 1];
     if tag == 0x57 {
-        return write_at(file, at + 2, panel, first);
+        return write_size(file, at, panel, first);
     }
     if tag == 0x44 {
         let second = file[at + 2];
-        return wait_of(first, second);
+        return wait_size(first, second);
     }
-    Kind::Malformed
+    0
 }
 
 // How many bytes a step takes.
@@ -138,33 +146,25 @@ pub fn size(kind: Kind) -> usize
     }
 }
 
-fn is_write_to(kind: Kind, register: u8) -> bool
-    ensures { λ r. ⌜ r ≡ kindWritesTo register kind ⌝ }
+// Marks the register that is written by the step at a place of the file, where that is a write.
+fn mark(written: &mut [bool; 10], file: &[u8], at: usize)
+    requires { ⌜ (at + 1 < length (now file)) × (getD (now file) (at + 1) 0 < 10) ⌝ }
+    ensures { λ r. ⌜ now (written .exit)
+        ≡ marked (getD (now (file .entry)) at 0) (getD (now (file .entry)) (at + 1) 0) (now (written .entry)) ⌝ }
 {
-    match kind {
-        Kind::Write(r) => r == register,
-        Kind::Wait(_) => false,
-        Kind::Malformed => false,
+    let tag = file[at];
+    let register = file[at + 1] as usize;
+    if tag == 0x57 {
+        written[register] = true;
     }
 }
 
-// Whether a register was written before a step, or is by it.
-fn written_so_far(before: bool, kind: Kind, register: u8) -> bool
-    ensures { λ r. ⌜ r ≡ (before || kindWritesTo register kind) ⌝ }
-{
-    if before {
-        return true;
-    }
-    is_write_to(kind, register)
-}
-
-// Whether steps were passed, the index after them, whether they write the channels (0x01) and the level (0x04), and what the last one is.
+// Whether steps were passed, the index after them, and whether they write the channels (0x01) and the level (0x04).
 pub struct StepsEnd {
     pub ok: bool,
     pub end: usize,
     pub channels: bool,
     pub level: bool,
-    pub last: Kind,
 }
 
 // Passes n steps, from index `at` on.
@@ -174,43 +174,44 @@ pub fn pass_steps(file: &[u8], panel: usize, at: usize, n: usize) -> StepsEnd
 {
     let mut end = at;
     let mut left = n;
-    let mut channels = false;
-    let mut level = false;
-    let mut last = Kind::Malformed;
+    let mut written = [false; 10];
     while 0 < left {
-        let kind = read_step(file, end, panel);
-        let z = size(kind);
+        let z = step_size(file, end, panel);
         if z == 0 {
             return StepsEnd {
                 ok: false,
                 end,
-                channels,
-                level,
-                last: kind,
+                channels: false,
+                level: false,
             };
         }
-        channels = written_so_far(channels, kind, 0x01);
-        level = written_so_far(level, kind, 0x04);
+        mark(&mut written, file, end);
         end += z;
         left -= 1;
-        last = kind;
     }
     StepsEnd {
         ok: true,
         end,
-        channels,
-        level,
-        last,
+        channels: written[0x01],
+        level: written[0x04],
     }
 }
 
-// The step at a place of the file.
+// The step at a place of the file, told by its bytes once it was passed.
 pub fn step_at(file: &[u8], at: usize, panel: usize) -> Kind
     requires { ⌜ (panel < 3) × (at ≤ length (now file)) ⌝ }
     ensures { λ r. ⌜ r ≡ kindOf (stepOf panel (drop at (now (file .entry)))) ⌝ }
 {
     let passed = pass_steps(file, panel, at, 1);
-    passed.last
+    if !passed.ok {
+        return Kind::Malformed;
+    }
+    let first = file[at + 1];
+    if file[at] == 0x57 {
+        return Kind::Write(first);
+    }
+    let second = file[at + 2];
+    Kind::Wait(wait_ms(first, second) as u16)
 }
 
 // The panel that a file names.

@@ -2,11 +2,12 @@
 -- Assumes nothing.
 use mathlib.Core.Path.{sym, ap, _∙_}
 use mathlib.Core.List.{[], _∷_}
+use native.Mathlib.Omega.{arith}
 use lib.ListN.{drop}
 use denote.Ref.{now}
 use borrow.Author.Needs.{needs}
 use Rattle.settings.specs.Settings.{hasPrefix}
-use Rattle.settings.proofs.Decode.{asked-channels, asked-level, asked-nothing}
+use Rattle.settings.proofs.Decode.{asked-channels, asked-level, asked-nothing, channels-long, level-long}
 use Rattle.settings.proofs.data_good.Statement.{statement}
 use Rattle.settings.proofs.data_good.Tie as tie
 
@@ -17,7 +18,9 @@ slice-aggregate-has-prefix : tie.Need-slice-aggregate-has-prefix
 slice-aggregate-has-prefix c = search needs
 
 has-prefix-requires : tie.Need-has-prefix-requires
-has-prefix-requires c κs = search needs
+has-prefix-requires c κs =
+    let a = c .before .before .before .before .args in
+    omega (arith, channels-long (a .panel) (a .register) (c .before .before .if1 .taken))
 
 returns : tie.Need-returns
 returns c =
@@ -32,7 +35,9 @@ slice-aggregate-has-prefix-2 : tie.Need-slice-aggregate-has-prefix-2
 slice-aggregate-has-prefix-2 c = search needs
 
 has-prefix-requires-2 : tie.Need-has-prefix-requires-2
-has-prefix-requires-2 c κs = search needs
+has-prefix-requires-2 c κs =
+    let a = c .before .before .before .before .before .args in
+    omega (arith, level-long (a .panel) (a .register) (c .before .before .if2 .taken))
 
 returns-2 : tie.Need-returns-2
 returns-2 c =

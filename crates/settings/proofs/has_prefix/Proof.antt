@@ -7,7 +7,7 @@ use native.Mathlib.Omega.{arith}
 use lib.ListN.{length, drop}
 use denote.Ref.{now}
 use Rattle.settings.specs.Settings.{hasPrefix}
-use Rattle.settings.proofs.Prefix.{prefix-short, prefix-differs, prefix-more, prefix-over}
+use Rattle.settings.proofs.Prefix.{prefix-differs, prefix-more, prefix-over}
 use Rattle.settings.proofs.has_prefix.Statement.{statement}
 use Rattle.settings.proofs.has_prefix.Tie as tie
 
@@ -21,30 +21,21 @@ abbrev μ-loop : tie.MeasureT-loop
 loop-holds : tie.Need-loop-holds Inv-loop μ-loop
 loop-holds c = (omega arith, rw add-zero)
 
-sub-if1 : tie.Need-sub-if1 Inv-loop μ-loop
-sub-if1 c = omega arith
+add-if1 : tie.Need-add-if1 Inv-loop μ-loop
+add-if1 c = omega arith
+
+shared-slice-read-if1 : tie.Need-shared-slice-read-if1 Inv-loop μ-loop
+shared-slice-read-if1 c = omega arith
+
+shared-slice-read-if1-2 : tie.Need-shared-slice-read-if1-2 Inv-loop μ-loop
+shared-slice-read-if1-2 c = omega arith
 
 returns : tie.Need-returns Inv-loop μ-loop
 returns c =
-    let a = c .before .before .before .args in
-    let i = c .before .before .loop .i in
-    sym (prefix-short (now (a .file)) (now (a .prefix)) (a .at + i) i (omega arith) (omega arith)) ∙ c .before .before .loop .inv .1
-
-add-if2 : tie.Need-add-if2 Inv-loop μ-loop
-add-if2 c = omega arith
-
-shared-slice-read-if2 : tie.Need-shared-slice-read-if2 Inv-loop μ-loop
-shared-slice-read-if2 c = omega arith
-
-shared-slice-read-if2-2 : tie.Need-shared-slice-read-if2-2 Inv-loop μ-loop
-shared-slice-read-if2-2 c = omega arith
-
-returns-2 : tie.Need-returns-2 Inv-loop μ-loop
-returns-2 c =
-    let a = c .before .before .before .before .before .before .args in
-    let i = c .before .before .before .before .before .loop .i in
-    sym (prefix-differs (now (a .file)) (now (a .prefix)) (a .at + i) i (omega arith) (omega arith) (c .if2 .taken))
-    ∙ c .before .before .before .before .before .loop .inv .1
+    let a = c .before .before .before .before .before .args in
+    let i = c .before .before .before .before .loop .i in
+    sym (prefix-differs (now (a .file)) (now (a .prefix)) (a .at + i) i (omega arith) (omega arith) (c .if1 .taken))
+    ∙ c .before .before .before .before .loop .inv .1
 
 add-i : tie.Need-add-i Inv-loop μ-loop
 add-i c = omega arith
@@ -54,16 +45,16 @@ loop-less c = omega arith
 
 loop-again : tie.Need-loop-again Inv-loop μ-loop
 loop-again c =
-    let a = c .before .before .before .before .before .before .args in
-    let i = c .before .before .before .before .before .loop .i in (
+    let a = c .before .before .before .before .before .args in
+    let i = c .before .before .before .before .loop .i in (
       omega arith,
       rw (← add-assoc)
-          (sym (prefix-more (now (a .file)) (now (a .prefix)) (a .at + i) i (omega arith) (omega arith) (c .if2 .left))
-          ∙ c .before .before .before .before .before .loop .inv .1),
+          (sym (prefix-more (now (a .file)) (now (a .prefix)) (a .at + i) i (omega arith) (omega arith) (c .if1 .left))
+          ∙ c .before .before .before .before .loop .inv .1),
     )
 
-returns-3 : tie.Need-returns-3 Inv-loop μ-loop
-returns-3 c =
+returns-2 : tie.Need-returns-2 Inv-loop μ-loop
+returns-2 c =
     let a = c .before .before .args in
     let i = c .before .loop .i in
     sym (prefix-over (now (a .file)) (now (a .prefix)) (a .at + i) i (omega arith)) ∙ c .before .loop .inv .1
@@ -75,13 +66,11 @@ has-prefix-spec =
     Inv-loop
     μ-loop
     loop-holds
-    sub-if1
+    add-if1
+    shared-slice-read-if1
+    shared-slice-read-if1-2
     returns
-    add-if2
-    shared-slice-read-if2
-    shared-slice-read-if2-2
-    returns-2
     add-i
     loop-less
     loop-again
-    returns-3)
+    returns-2)

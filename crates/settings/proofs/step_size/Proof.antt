@@ -1,9 +1,9 @@
--- `read_step` meets its contract: what it reads from index `at` on is the beginning of the file's rest there.
+-- `step_size` meets its contract: what it reads from index `at` on is the beginning of the file's rest there.
 -- Assumes nothing.
 use borrow.Author.Needs.{needs}
 use Rattle.settings.proofs.Decode.{short-step, write-step, wait-step, no-step}
-use Rattle.settings.proofs.read_step.Statement.{statement}
-use Rattle.settings.proofs.read_step.Tie as tie
+use Rattle.settings.proofs.step_size.Statement.{statement}
+use Rattle.settings.proofs.step_size.Tie as tie
 
 sub-if1 : tie.Need-sub-if1
 sub-if1 c = search needs
@@ -20,11 +20,8 @@ add-first c = search needs
 shared-slice-read-first : tie.Need-shared-slice-read-first
 shared-slice-read-first c = search needs
 
-add-write-at : tie.Need-add-write-at
-add-write-at c = search needs
-
-write-at-requires : tie.Need-write-at-requires
-write-at-requires c κs = search needs
+write-size-requires : tie.Need-write-size-requires
+write-size-requires c κs = search needs
 
 returns-2 : tie.Need-returns-2
 returns-2 c = search (needs, write-step)
@@ -35,8 +32,8 @@ add-second c = search needs
 shared-slice-read-second : tie.Need-shared-slice-read-second
 shared-slice-read-second c = search needs
 
-wait-of-requires : tie.Need-wait-of-requires
-wait-of-requires c κs = search needs
+wait-size-requires : tie.Need-wait-size-requires
+wait-size-requires c κs = search needs
 
 returns-3 : tie.Need-returns-3
 returns-3 c = search (needs, wait-step)
@@ -44,8 +41,8 @@ returns-3 c = search (needs, wait-step)
 returns-4 : tie.Need-returns-4
 returns-4 c = search (needs, no-step)
 
-pub read-step-spec : {M : Type 1} → statement M
-read-step-spec =
+pub step-size-spec : {M : Type 1} → statement M
+step-size-spec =
     tie.close
     (tie.spec
     sub-if1
@@ -53,11 +50,10 @@ read-step-spec =
     shared-slice-read-tag
     add-first
     shared-slice-read-first
-    add-write-at
-    write-at-requires
+    write-size-requires
     returns-2
     add-second
     shared-slice-read-second
-    wait-of-requires
+    wait-size-requires
     returns-3
     returns-4)
