@@ -79,6 +79,8 @@ tests: build
 	$(PYTHON) -m tests.layout.compare target/bin/layout_list
 	@echo "== every public call on the store has a place in demand 3"
 	$(PYTHON) tests/chain/calls.py
+	@echo "== the independent implementation by itself: bitmaps by chunks against whole uploads"
+	$(PYTHON) -m tests.replay.whole
 	@echo "== random scripts of calls against an independent implementation, with the sums read from the bytes handed out"
 	$(PYTHON) -m tests.replay.compare target/bin/replay
 	@echo "== the picture of the crates, the examples of FORMATS.md and the figures of GHOSTING.md"

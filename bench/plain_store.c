@@ -1,6 +1,7 @@
 /*
  * A store in plain C, as a careful engineer would write it: each call is given a pointer to the state and changes it in
- * place, and tests it first, file and all, as the rules ask (13). A region is written row by row.
+ * place, and tests it first, file and all, as the rules ask (13). A region is written row by row, and so is a bitmap that
+ * comes by chunks: a row that a chunk has whole goes into its slot at once, others by way of the bytes that the state keeps.
  */
 #include "plain.h"
 #include "store.h"
@@ -33,12 +34,23 @@ struct run {
     uint32_t step, stage, frame, row;
 };
 
+enum palette { NEITHER, BLACK_FIRST, WHITE_FIRST };
+
+/* A bitmap file on its way into a slot. With none begun all is 0. */
+struct fill {
+    uint32_t slot;
+    size_t came;          /* bytes of the file so far */
+    enum palette palette; /* once the header has come */
+    uint8_t kept[HEADER]; /* of a header or row that has not come whole; 0 after that */
+};
+
 struct store {
     uint8_t file[FILE_MAX];
     size_t len;
     uint32_t slots;
     enum phase phase;
     struct run run;
+    struct fill fill;
     bool trusted; /* calls do not test the state */
 };
 
@@ -115,6 +127,71 @@ static struct next_write next_write(const uint8_t *file, size_t section, uint32_
     return next;
 }
 
+/* ---- bitmap files */
+
+static uint32_t number_at(const uint8_t *file, size_t at)
+{
+    return file[at] | (uint32_t)file[at + 1] << 8 | (uint32_t)file[at + 2] << 16 | (uint32_t)file[at + 3] << 24;
+}
+
+static enum palette palette_of(const uint8_t *file)
+{
+    uint32_t first = number_at(file, 54) & 0xFFFFFF, second = number_at(file, 58) & 0xFFFFFF;
+    if (first == 0 && second == 0xFFFFFF)
+        return BLACK_FIRST;
+    return first == 0xFFFFFF && second == 0 ? WHITE_FIRST : NEITHER;
+}
+
+static size_t file_length(const struct panel *panel)
+{
+    return HEADER + (size_t)panel->rows * panel->stride;
+}
+
+static bool bitmap_good(const struct panel *panel, const uint8_t *file, size_t len)
+{
+    uint32_t rows_len = panel->rows * panel->stride;
+    return len == HEADER + rows_len && file[0] == 'B' && file[1] == 'M' && number_at(file, 2) == len &&
+           number_at(file, 6) == 0 && number_at(file, 10) == HEADER && number_at(file, 14) == 40 &&
+           number_at(file, 18) == 8 * panel->row_bytes && number_at(file, 22) == panel->rows &&
+           number_at(file, 26) == 0x00010001 && number_at(file, 30) == 0 &&
+           (number_at(file, 34) == 0 || number_at(file, 34) == rows_len) &&
+           (number_at(file, 46) == 0 || number_at(file, 46) == 2) && palette_of(file) != NEITHER;
+}
+
+/* Whether the first n bytes of a file, as far as they go, have this number at an index. */
+static bool number_begins(const uint8_t *file, size_t n, size_t at, size_t size, uint32_t number)
+{
+    for (size_t i = at; i < n && i < at + size; i++, number >>= 8)
+        if (file[i] != (uint8_t)number)
+            return false;
+    return true;
+}
+
+static bool colours_begin(const uint8_t *file, size_t n, uint32_t first, uint32_t second)
+{
+    return number_begins(file, n, 54, 3, first) && number_begins(file, n, 58, 3, second);
+}
+
+/* Whether a good header can begin with these n bytes. */
+static bool header_begins(const struct panel *panel, const uint8_t *file, size_t n)
+{
+    const struct {
+        size_t at;
+        uint32_t number, other;
+    } fields[] = {
+        {2, (uint32_t)file_length(panel), (uint32_t)file_length(panel)}, {6, 0, 0}, {10, HEADER, HEADER}, {14, 40, 40},
+        {18, 8 * panel->row_bytes, 8 * panel->row_bytes}, {22, panel->rows, panel->rows}, {26, 0x00010001, 0x00010001},
+        {30, 0, 0}, {34, 0, panel->rows * panel->stride}, {46, 0, 2},
+    };
+    if (!number_begins(file, n, 0, 2, 'B' | 'M' << 8))
+        return false;
+    for (size_t i = 0; i < sizeof fields / sizeof fields[0]; i++)
+        if (!number_begins(file, n, fields[i].at, 4, fields[i].number) &&
+            !number_begins(file, n, fields[i].at, 4, fields[i].other))
+            return false;
+    return colours_begin(file, n, 0, 0xFFFFFF) || colours_begin(file, n, 0xFFFFFF, 0);
+}
+
 /* ---- the state's conditions (13) and the memory's length (1) */
 
 static bool after_write(const uint8_t *file, size_t section, uint32_t k)
@@ -149,6 +226,35 @@ static bool run_valid(const struct store *store, const struct panel *panel, size
     return frame + run->row > 0 && due_by(run, frame - (run->row == 0), run->handed);
 }
 
+/* How many bytes of a header or row that has not come whole are kept. */
+static size_t kept_count(const struct panel *panel, size_t came)
+{
+    return came < HEADER ? came : (came - HEADER) % panel->stride;
+}
+
+/* Whether all bytes are 0 from an index on. */
+static bool zero_from(const uint8_t *kept, size_t at)
+{
+    uint8_t any = 0;
+    for (; at < HEADER; at++)
+        any |= kept[at];
+    return any == 0;
+}
+
+static bool fill_valid(const struct store *store, const struct panel *panel)
+{
+    const struct fill *fill = &store->fill;
+    if (fill->slot == 0)
+        return fill->came == 0 && fill->palette == NEITHER && zero_from(fill->kept, 0);
+    if (fill->slot > store->slots || (store->phase == RUNNING && store->run.slot == fill->slot))
+        return false;
+    if (fill->came > file_length(panel) || !zero_from(fill->kept, kept_count(panel, fill->came)))
+        return false;
+    if (fill->came >= HEADER)
+        return fill->palette == BLACK_FIRST || fill->palette == WHITE_FIRST;
+    return fill->palette == NEITHER && header_begins(panel, fill->kept, fill->came);
+}
+
 static size_t picture_bytes(const struct panel *panel)
 {
     return (size_t)panel->rows * panel->row_bytes;
@@ -161,7 +267,7 @@ static uint8_t refused(const struct store *store, size_t memory_len, const struc
     if (*stop == 0 || store->slots < 1 || store->slots > 7)
         return 13;
     *panel = &panels[store->file[1]];
-    if (store->phase == RUNNING && !run_valid(store, *panel, *stop))
+    if ((store->phase == RUNNING && !run_valid(store, *panel, *stop)) || !fill_valid(store, *panel))
         return 13;
     return memory_len == (store->slots + 1) * picture_bytes(*panel) ? 0 : 1;
 }
@@ -205,33 +311,9 @@ static uint8_t upload_refused(const struct store *store, size_t memory_len, uint
         return number;
     if (slot < 1 || slot > store->slots)
         return 3;
-    return store->phase == RUNNING && store->run.slot == slot ? 7 : 0;
-}
-
-static uint32_t number_at(const uint8_t *file, size_t at)
-{
-    return file[at] | (uint32_t)file[at + 1] << 8 | (uint32_t)file[at + 2] << 16 | (uint32_t)file[at + 3] << 24;
-}
-
-enum palette { BLACK_FIRST, WHITE_FIRST, NEITHER };
-
-static enum palette palette_of(const uint8_t *file)
-{
-    uint32_t first = number_at(file, 54) & 0xFFFFFF, second = number_at(file, 58) & 0xFFFFFF;
-    if (first == 0 && second == 0xFFFFFF)
-        return BLACK_FIRST;
-    return first == 0xFFFFFF && second == 0 ? WHITE_FIRST : NEITHER;
-}
-
-static bool bitmap_good(const struct panel *panel, const uint8_t *file, size_t len)
-{
-    uint32_t rows_len = panel->rows * panel->stride;
-    return len == HEADER + rows_len && file[0] == 'B' && file[1] == 'M' && number_at(file, 2) == len &&
-           number_at(file, 6) == 0 && number_at(file, 10) == HEADER && number_at(file, 14) == 40 &&
-           number_at(file, 18) == 8 * panel->row_bytes && number_at(file, 22) == panel->rows &&
-           number_at(file, 26) == 0x00010001 && number_at(file, 30) == 0 &&
-           (number_at(file, 34) == 0 || number_at(file, 34) == rows_len) &&
-           (number_at(file, 46) == 0 || number_at(file, 46) == 2) && palette_of(file) != NEITHER;
+    if (store->phase == RUNNING && store->run.slot == slot)
+        return 7;
+    return store->fill.slot == slot ? 15 : 0;
 }
 
 static void put_row(uint8_t *restrict row, const uint8_t *restrict bytes, uint32_t n, bool turned)
@@ -292,6 +374,114 @@ static uint8_t store_upload_region(struct store *store, uint8_t *memory, size_t 
     return 0;
 }
 
+static uint8_t store_begin(struct store *store, size_t memory_len, uint32_t slot)
+{
+    const struct panel *panel;
+    uint8_t number = upload_refused(store, memory_len, slot, &panel);
+    if (number != 0)
+        return number;
+    if (store->fill.slot != 0)
+        return 16;
+    store->fill.slot = slot;
+    return 0;
+}
+
+/* 13, 1 or 17, or 0; and the panel. */
+static uint8_t fill_refused(const struct store *store, size_t memory_len, const struct panel **panel)
+{
+    size_t stop;
+    uint8_t number = entered(store, memory_len, panel, &stop);
+    if (number != 0)
+        return number;
+    return store->fill.slot == 0 ? 17 : 0;
+}
+
+/* A fill that comes to nothing leaves its slot white. */
+static void drop_fill(struct store *store, const struct panel *panel, uint8_t *memory)
+{
+    memset(memory + store->fill.slot * picture_bytes(panel), 0xFF, picture_bytes(panel));
+    memset(&store->fill, 0, sizeof store->fill);
+}
+
+/* Whether a good file can begin with what came and this chunk. */
+static bool goes_on(const struct fill *fill, const struct panel *panel, const uint8_t *chunk, size_t len)
+{
+    if (len > file_length(panel) - fill->came)
+        return false;
+    if (fill->came >= HEADER)
+        return true;
+    uint8_t header[HEADER];
+    size_t n = len < HEADER - fill->came ? len : HEADER - fill->came;
+    memcpy(header, fill->kept, fill->came);
+    memcpy(header + fill->came, chunk, n);
+    return header_begins(panel, header, fill->came + n);
+}
+
+/* The row that comes next, from the bottom up. */
+static void fill_row(struct fill *fill, const struct panel *panel, uint8_t *picture, const uint8_t *row)
+{
+    size_t y = panel->rows - 1 - (fill->came - HEADER) / panel->stride;
+    put_row(picture + y * panel->row_bytes, row, panel->row_bytes, fill->palette == WHITE_FIRST);
+}
+
+/* Takes the part of a chunk that a header or row still lacks, or all of it; answers its length. */
+static size_t take_part(struct fill *fill, const struct panel *panel, uint8_t *picture, const uint8_t *chunk, size_t len)
+{
+    size_t kept = kept_count(panel, fill->came);
+    size_t lacks = (fill->came < HEADER ? HEADER : panel->stride) - kept;
+    size_t n = len < lacks ? len : lacks;
+    memcpy(fill->kept + kept, chunk, n);
+    if (n == lacks) {
+        if (fill->came < HEADER)
+            fill->palette = palette_of(fill->kept);
+        else
+            fill_row(fill, panel, picture, fill->kept);
+        memset(fill->kept, 0, kept + n);
+    }
+    fill->came += n;
+    return n;
+}
+
+static uint8_t store_feed(struct store *store, uint8_t *memory, size_t memory_len, const uint8_t *chunk, size_t len)
+{
+    const struct panel *panel;
+    struct fill *fill = &store->fill;
+    uint8_t number = fill_refused(store, memory_len, &panel);
+    if (number != 0)
+        return number;
+    if (!goes_on(fill, panel, chunk, len)) {
+        drop_fill(store, panel, memory);
+        return 4;
+    }
+    uint8_t *picture = memory + fill->slot * picture_bytes(panel);
+    while (len > 0) {
+        size_t n = panel->stride;
+        if (fill->came >= HEADER && kept_count(panel, fill->came) == 0 && len >= n) {
+            fill_row(fill, panel, picture, chunk);
+            fill->came += n;
+        } else {
+            n = take_part(fill, panel, picture, chunk, len);
+        }
+        chunk += n;
+        len -= n;
+    }
+    return 0;
+}
+
+static uint8_t store_finish(struct store *store, uint8_t *memory, size_t memory_len)
+{
+    const struct panel *panel;
+    uint8_t number = fill_refused(store, memory_len, &panel);
+    if (number != 0)
+        return number;
+    if (store->fill.came != file_length(panel)) {
+        drop_fill(store, panel, memory);
+        return 4;
+    }
+    memset(&store->fill, 0, sizeof store->fill);
+    return 0;
+}
+
 static uint8_t store_start(struct store *store, size_t memory_len, uint32_t slot, uint32_t tick)
 {
     const struct panel *panel;
@@ -305,6 +495,8 @@ static uint8_t store_start(struct store *store, size_t memory_len, uint32_t slot
         return 12;
     if (slot < 1 || slot > store->slots)
         return 3;
+    if (store->fill.slot == slot)
+        return 15;
     store->phase = RUNNING;
     store->run = (struct run){.slot = slot, .last = tick};
     return 0;
@@ -478,6 +670,25 @@ size_t trusting_update(const uint8_t *file, size_t file_len, const uint8_t *bitm
                        uint8_t *memory, size_t memory_len, uint8_t *out, size_t out_len)
 {
     return update(true, file, file_len, bitmap, bitmap_len, memory, memory_len, out, out_len);
+}
+
+uint8_t plain_opening(const uint8_t *file, size_t file_len, uint8_t *memory, size_t memory_len)
+{
+    struct store store;
+    return store_open(&store, file, file_len, 1, memory, memory_len);
+}
+
+uint8_t plain_fill(const uint8_t *file, size_t file_len, const uint8_t *bitmap, size_t bitmap_len, size_t size,
+                   uint8_t *memory, size_t memory_len)
+{
+    struct store store;
+    uint8_t number = store_open(&store, file, file_len, 1, memory, memory_len);
+    if (number != 0)
+        return number;
+    store_begin(&store, memory_len, 1);
+    for (size_t at = 0; at < bitmap_len; at += size)
+        store_feed(&store, memory, memory_len, bitmap + at, size < bitmap_len - at ? size : bitmap_len - at);
+    return store_finish(&store, memory, memory_len);
 }
 
 uint8_t plain_bitmap(const uint8_t *file, size_t file_len, const uint8_t *bitmap, size_t bitmap_len, uint8_t *memory,

@@ -2,8 +2,8 @@
 docs/BENCHMARKS.md.
 
 Run from the repository's root by `make bench`, which builds the libraries. `--compare` only checks that the driver and
-plain C put the same bytes out in a whole update of each panel, paint the same regions, and give out the same for a finish panel
-and the hall display.
+plain C put the same bytes out in a whole update of each panel, take the same bitmaps by chunks, paint the same regions, and give
+out the same for a finish panel and the hall display.
 """
 import os
 import re
@@ -19,6 +19,7 @@ LIBRARIES = "target/staticlib"
 COMPILE = ["gcc", "-std=c99", "-O3", "-Wall", "-Wextra", "-pedantic", "-Iinclude"]
 LINE_ROUNDS, UPDATE_ROUNDS, FINISH_ROUNDS, HALL_ROUNDS, REGION_ROUNDS = 60, 100, 60, 60, 200
 REGION_LIMITS = {"whole": 1 / 3, "part": 1 / 4}  # at most this much of the time of the loop over the region's dots
+FILL_LIMIT = 3  # a bitmap fed whole takes at most so many times its upload
 BUS_HZ = 12_000_000
 
 
@@ -53,7 +54,8 @@ def numbers(command):
 def compare():
     for panel in PANELS:
         found = numbers([f"{OUT}/update", settings_path(panel), "1"])
-        print(f"panel {panel.name}: the driver and plain C put the same {found['bytes']:,.0f} bytes out and leave the same memory")
+        print(f"panel {panel.name}: the driver and plain C put the same {found['bytes']:,.0f} bytes out and leave the same memory; "
+              f"{found['fills_taken']:,.0f} bitmaps by chunks taken alike, {found['fills_refused']:,.0f} refused alike")
     found = numbers([f"{OUT}/region", "0"])
     print(f"{found['painted']:,.0f} regions, at every x and of every width, by whole bytes, dot by dot and in plain C: the same pictures; "
           f"{found['refused']:,.0f} refused alike")
@@ -112,6 +114,27 @@ def region_rows():
         timed("the whole panel, beside bare `memcpy` of 176 times 33 bytes", "whole", "bare", ".2f"),
         timed("250 dots wide at x = 3, beside a loop over its dots", "part", "dots", ".4f"),
         timed("250 dots wide at x = 3, beside plain C for any region, by shifts and masks", "part", "plain", ".2f"),
+    ]
+
+
+def fill_rows(store):
+    """A bitmap by chunks beside its whole upload, the opening's time taken off: driver, plain C, and both ratios."""
+    def alone(work, version):
+        return store[f"{work}_{version}"] - store[f"opening_{version}"]
+
+    whole = alone("bitmap", "library")
+    if alone("fill_whole", "library") > FILL_LIMIT * whole:
+        sys.exit(f"a bitmap fed whole takes more than {FILL_LIMIT} times its upload: {alone('fill_whole', 'library') / whole:.2f}")
+
+    def timed(work, name):
+        ours = alone(name, "library")
+        return f"{row(work, ours, alone(name, 'plain'), 'us', 1e3)} {ours / whole:,.2f} |"
+
+    return [
+        timed("one whole upload", "bitmap"),
+        timed("begin, one chunk, finish", "fill_whole"),
+        timed("begin, 100 chunks of up to 64 bytes, finish", "fill_64"),
+        timed("begin, 6,398 chunks of a byte, finish", "fill_bytes"),
     ]
 
 
@@ -186,6 +209,7 @@ def document(panel):
         "RATIOS": "\n".join(rows),
         "REGION_ROUNDS": str(REGION_ROUNDS),
         "REGIONS": "\n".join(region_rows()),
+        "FILLS": "\n".join(fill_rows(store)), "FILL_LIMIT": str(FILL_LIMIT),
         "WHITE_FIRST": with_opening, "WHITE_FIRST_ALONE": alone,
         "FINISH_ROUNDS": str(FINISH_ROUNDS),
         "FINISH": "\n".join(finish_rows()),

@@ -18,11 +18,24 @@ size_t plain_update(const uint8_t *settings, size_t settings_len, const uint8_t 
 size_t trusting_update(const uint8_t *settings, size_t settings_len, const uint8_t *bitmap, size_t bitmap_len,
                        uint8_t *memory, size_t memory_len, uint8_t *bus, size_t bus_len);
 
+/* Opens a store: the opening's number. */
+uint8_t store_opening(const uint8_t *settings, size_t settings_len, uint8_t *memory, size_t memory_len);
+uint8_t plain_opening(const uint8_t *settings, size_t settings_len, uint8_t *memory, size_t memory_len);
+
 /* Opens a store and uploads a bitmap to slot 1: the upload's number. */
 uint8_t store_bitmap(const uint8_t *settings, size_t settings_len, const uint8_t *bitmap, size_t bitmap_len,
                      uint8_t *memory, size_t memory_len);
 uint8_t plain_bitmap(const uint8_t *settings, size_t settings_len, const uint8_t *bitmap, size_t bitmap_len,
                      uint8_t *memory, size_t memory_len);
+
+/*
+ * Opens a store and fills slot 1: begin, the bitmap in chunks of `size` bytes, of which the last may be shorter, and finish. No call is
+ * left out after a refusal; answers the number of the finish, which is 0 where every call was accepted.
+ */
+uint8_t store_fill(const uint8_t *settings, size_t settings_len, const uint8_t *bitmap, size_t bitmap_len, size_t size,
+                   uint8_t *memory, size_t memory_len);
+uint8_t plain_fill(const uint8_t *settings, size_t settings_len, const uint8_t *bitmap, size_t bitmap_len, size_t size,
+                   uint8_t *memory, size_t memory_len);
 
 /* Opens a store and uploads a region of slot 1: the upload's number. */
 uint8_t store_region(const uint8_t *settings, size_t settings_len, uint32_t x, uint32_t y, uint32_t width,

@@ -1,9 +1,11 @@
 /*
- * A whole update, uploads of a bitmap with black first and with white first, and the upload of the whole panel as one
- * region: the library (crates/update_loop) beside plain C (plain_store.c), in one run. The versions take turns; the best
- * round of each counts. They must put the same bytes out and leave the same memory.
+ * A whole update, uploads of a bitmap with black first and with white first, whole and by chunks, and the upload of the whole
+ * panel as one region: the library (crates/update_loop) beside plain C (plain_store.c), in one run. The versions take turns;
+ * the best round of each counts. They must put the same bytes out and leave the same memory. Before that they must agree on
+ * files by chunks, good and damaged ones.
  *
- * Usage: update SETTINGS ROUNDS     the settings file names the panel; prints nanoseconds
+ * Usage: update SETTINGS ROUNDS     the settings file names the panel; prints how many fills were accepted and refused, and
+ *                                   nanoseconds
  */
 #define _POSIX_C_SOURCE 199309L
 #include <stdio.h>
@@ -23,6 +25,7 @@ static const struct {
 static const char *const names[VERSIONS] = {"library", "plain", "trusting"};
 
 static uint8_t settings[SETTINGS_MAX + 1], bitmap[BITMAP_MAX], negative[BITMAP_MAX], payload[PICTURE_MAX];
+static uint8_t damaged[BITMAP_MAX + 1], uploaded[2 * PICTURE_MAX];
 static uint8_t memory[VERSIONS][2 * PICTURE_MAX], bus[VERSIONS][BUS_MAX];
 static size_t settings_len, bitmap_len, picture_len, memory_len, sent[VERSIONS];
 static unsigned width, height;
@@ -57,6 +60,14 @@ static void put_number(size_t at, uint32_t value)
         bitmap[at + i] = (uint8_t)(value >> 8 * i);
 }
 
+/* The memory after an upload of the bitmap to slot 1. */
+static void make_uploaded(unsigned row_bytes, unsigned stride)
+{
+    memset(uploaded, 0xFF, picture_len);
+    for (unsigned y = 0; y < height; y++)
+        memcpy(uploaded + picture_len + y * row_bytes, bitmap + HEADER + (height - 1 - y) * stride, row_bytes);
+}
+
 /* Random dots, as a bitmap file, as one of the same picture with white first, and as the payload of a region. */
 static void make_pictures(void)
 {
@@ -84,6 +95,7 @@ static void make_pictures(void)
     memcpy(negative + 58, bitmap + 54, 4);
     for (size_t i = HEADER; i < bitmap_len; i++)
         negative[i] = (uint8_t)~bitmap[i];
+    make_uploaded(row_bytes, stride);
 }
 
 static void time_update(int v)
@@ -110,13 +122,36 @@ static void time_negative(int v)
     upload(v, negative);
 }
 
-/* An opening alone: the region after it is refused. */
 static void time_opening(int v)
 {
     for (int i = 0; i < UPLOADS; i++)
-        if ((v == 0 ? store_region : plain_region)(settings, settings_len, 0, 0, 0, height, payload, picture_len,
-                                                   memory[v], memory_len) != 5)
-            stop("a region of no width was taken");
+        if ((v == 0 ? store_opening : plain_opening)(settings, settings_len, memory[v], memory_len))
+            stop("an opening was refused");
+}
+
+static uint8_t fill(int v, const uint8_t *file, size_t len, size_t size)
+{
+    return (v == 0 ? store_fill : plain_fill)(settings, settings_len, file, len, size, memory[v], memory_len);
+}
+
+static void time_fill_whole(int v)
+{
+    for (int i = 0; i < UPLOADS; i++)
+        if (fill(v, bitmap, bitmap_len, bitmap_len))
+            stop("a fill was refused");
+}
+
+static void time_fill_64(int v)
+{
+    for (int i = 0; i < UPLOADS; i++)
+        if (fill(v, bitmap, bitmap_len, 64))
+            stop("a fill in chunks of 64 bytes was refused");
+}
+
+static void time_fill_bytes(int v)
+{
+    if (fill(v, bitmap, bitmap_len, 1))
+        stop("a fill a byte at a time was refused");
 }
 
 static void time_region(int v)
@@ -143,31 +178,67 @@ static void round_of(void (*work)(int), int versions, double *best)
     }
 }
 
+static unsigned fills_taken, fills_refused;
+
+/* One fill by both versions: they must give the same number and leave the same memory. */
+static void agreed(const uint8_t *file, size_t len, size_t size)
+{
+    uint8_t number = fill(0, file, len, size);
+    if (fill(1, file, len, size) != number)
+        stop("the library and plain C give different numbers for a fill");
+    if (memcmp(memory[0], memory[1], memory_len) != 0)
+        stop("the library and plain C leave different memories after a fill");
+    *(number == 0 ? &fills_taken : &fills_refused) += 1;
+}
+
+/* In chunks of many lengths: both orders of the palette; each byte of the header changed; one byte too few and one too many. */
+static void compare_fills(void)
+{
+    static const size_t sizes[] = {1, 2, 7, 27, 28, 29, 35, 36, 37, 61, 62, 63, 64, 65, 1000, BITMAP_MAX + 1};
+    memcpy(damaged, bitmap, bitmap_len);
+    for (size_t k = 0; k < sizeof sizes / sizeof sizes[0]; k++) {
+        agreed(bitmap, bitmap_len, sizes[k]);
+        agreed(negative, bitmap_len, sizes[k]);
+        agreed(bitmap, bitmap_len - 1, sizes[k]);
+        agreed(damaged, bitmap_len + 1, sizes[k]);
+        for (size_t at = 0; at < HEADER; at++) {
+            damaged[at] ^= (uint8_t)(1 + (at + k) % 255);
+            agreed(damaged, bitmap_len, sizes[k]);
+            damaged[at] = bitmap[at];
+        }
+    }
+}
+
+static const struct {
+    const char *name;
+    void (*work)(int);
+    int versions, repeats, uploads; /* the last: whether it leaves the bitmap in slot 1, and no more */
+} works[] = {
+    {"update", time_update, VERSIONS, 1, 0},        {"opening", time_opening, 2, UPLOADS, 0},
+    {"bitmap", time_bitmap, 2, UPLOADS, 1},         {"negative", time_negative, 2, UPLOADS, 1},
+    {"fill_whole", time_fill_whole, 2, UPLOADS, 1}, {"fill_64", time_fill_64, 2, UPLOADS, 1},
+    {"fill_bytes", time_fill_bytes, 2, 1, 1},       {"region", time_region, 2, UPLOADS, 0},
+};
+
+enum { WORKS = sizeof works / sizeof works[0] };
+
 int main(int argc, char **argv)
 {
-    double update[VERSIONS] = {0}, openings[2] = {0}, bitmaps[2] = {0}, negatives[2] = {0}, regions[2] = {0};
-    static uint8_t before[2 * PICTURE_MAX];
+    static double best[WORKS][VERSIONS];
     if (argc != 3)
         stop("usage: update SETTINGS ROUNDS");
     read_settings(argv[1]);
     make_pictures();
-    for (int round = 0; round < atoi(argv[2]); round++) {
-        for (int v = 0; v < VERSIONS; v++)
-            sent[v] = 0;
-        round_of(time_update, VERSIONS, update);
-        round_of(time_opening, 2, openings);
-        round_of(time_bitmap, 2, bitmaps);
-        memcpy(before, memory[0], memory_len);
-        round_of(time_negative, 2, negatives);
-        if (memcmp(before, memory[0], memory_len) != 0)
-            stop("the picture is another with white first");
-        round_of(time_region, 2, regions);
-    }
-    printf("bytes %zu\n", sent[0]);
-    for (int v = 0; v < VERSIONS; v++)
-        printf("update_%s %.0f\n", names[v], update[v]);
-    for (int v = 0; v < 2; v++)
-        printf("opening_%s %.0f\nbitmap_%s %.0f\nnegative_%s %.0f\nregion_%s %.0f\n", names[v], openings[v] / UPLOADS,
-               names[v], bitmaps[v] / UPLOADS, names[v], negatives[v] / UPLOADS, names[v], regions[v] / UPLOADS);
+    compare_fills();
+    for (int round = 0; round < atoi(argv[2]); round++)
+        for (int w = 0; w < WORKS; w++) {
+            round_of(works[w].work, works[w].versions, best[w]);
+            if (works[w].uploads && memcmp(memory[0], uploaded, memory_len) != 0)
+                stop("an upload leaves another picture than that of the bitmap");
+        }
+    printf("bytes %zu\nfills_taken %u\nfills_refused %u\n", sent[0], fills_taken, fills_refused);
+    for (int w = 0; w < WORKS; w++)
+        for (int v = 0; v < works[w].versions; v++)
+            printf("%s_%s %.0f\n", works[w].name, names[v], best[w][v] / works[w].repeats);
     return 0;
 }

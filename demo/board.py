@@ -19,6 +19,7 @@ FOLDER = "target/demo"
 
 FIRST_TICK = 4294967000  # 296 ms before the tick readings wrap
 BETWEEN_BIBS = 60000     # ms
+CHUNK = 64               # bytes at a time of a bitmap that comes by chunks
 
 INTRODUCTION = """
 Each picture is what a simulated panel makes of the bytes that the driver hands out, and of nothing else: it adds up the
@@ -79,9 +80,10 @@ def show_panel(panel, whole_listing):
         show_bib(replay, glass, clock, 1, "17", bib17, {panel.frames + 5: 50})  # oversleeps in stage 2
 
         clock.sleep(BETWEEN_BIBS)
-        upload_bitmap(replay, panel, 2, bib17)
+        chunks = fill(replay, panel, 2, bib17)
         upload_region(replay, 2, bib18, second)
-        say("\nBib 18: uploaded to slot 2 as the bitmap of bib 17, then its second digit as a region of %d x %d dots.\n" % second[2:])
+        say("\nBib 18: slot 2 got the bitmap of bib 17 in %d chunks, then its second digit as a region of %d x %d dots.\n" % (
+            chunks, *second[2:]))
         show_bib(replay, glass, clock, 2, "18", bib18, {2 * panel.frames: 20})  # oversleeps before stage 3
 
 
@@ -100,6 +102,17 @@ def listing(panel, file, whole):
 
 def upload_bitmap(replay, panel, slot, drawn):
     accepted(replay, "bitmap %d %s" % (slot, bitmap.write(panel, drawn).hex()))
+
+
+def fill(replay, panel, slot, drawn):
+    """A bitmap by chunks. Gives back their number."""
+    file = bitmap.write(panel, drawn)
+    starts = range(0, len(file), CHUNK)
+    accepted(replay, "begin %d" % slot)
+    for at in starts:
+        accepted(replay, "chunk " + file[at:at + CHUNK].hex())
+    accepted(replay, "finish")
+    return len(starts)
 
 
 def upload_region(replay, slot, drawn, box):

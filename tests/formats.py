@@ -1,8 +1,9 @@
-"""Runs the examples of docs/FORMATS.md: the listing of a settings file, the mending of a bitmap, the script for replay, and the bitmap
-file of a slot with its palettes.
+"""Runs the examples of docs/FORMATS.md: the listing of a settings file, the mending of a bitmap, the scripts for replay, the bitmap
+file of a slot with its palettes, and that file by chunks.
 
 Usage, from the repository's root: python3 -m tests.formats
 """
+import itertools
 import re
 import subprocess
 import sys
@@ -50,12 +51,9 @@ def written(calls):
     return bytes.fromhex(replayed(calls + ["write 1"])[-1].split(" ")[1])
 
 
-def bitmap_example(text, script):
+def bitmap_example(text, opening, file):
     """The rows of the table of a file: an index, and bytes that stand there. Then those of the table of palettes: the
     palette, and what three bytes of row 10 become."""
-    upload = next(line for line in script if line.startswith("region"))
-    opening = re.split("  +", next(line for line in script if line.startswith("open")))[0]
-    file = written([opening, re.split("  +", upload)[0]])
     table, _, palettes = text[text.index("This is the file"):].split("\n\n")[1:4]
     for at, cells in re.findall(r"^\| ([\d,]+) \| (.*?) \|", table, re.M):
         typed = bytes.fromhex("".join(re.findall("`([0-9A-F ]+)`", cells)))
@@ -66,14 +64,38 @@ def bitmap_example(text, script):
         yield f"palette {palette}", given[1422:1425], bytes.fromhex(typed)
 
 
+def rows_there(file, slot):
+    """How many rows of a file stand in the slot, from the bottom row up."""
+    places = range(62, len(file), 16)
+    return next((k for k, at in enumerate(places) if slot[at:at + 16] != file[at:at + 16]), len(places))
+
+
+def fill_example(text, opening, file):
+    """The rows of the table of a fill: after each call, how many bytes have come, and how many of their rows are in the slot. It is a
+    slot that was black."""
+    table = text[text.index("| bytes so far |"):].split("\n\n")[0]
+    rows = [(call, *(int(cell.replace(",", "")) for cell in cells)) for call, *cells in re.findall(
+        r"^\| (.*?) \| ([\d,]+) \| (\d+) \|$", table, re.M)]
+    calls, before = [opening, "region 1 0 0 128 96 " + "00" * 1536], 0
+    for call, came, typed in rows:
+        calls.append({"begin": "begin 1", "finish": "finish"}.get(call, "chunk " + (file[before:came].hex() or "-")))
+        before = came
+        yield f"fill: {call}", replayed(calls)[-1], "0"
+        yield f"fill: rows after {call}", rows_there(file, written(calls)), typed
+
+
 def main():
     with open(DOCUMENT, encoding="utf-8") as document:
         text = document.read()
     listing = next(block for block in blocks(text) if block[0].startswith("$ echo"))
     mending = next(block for block in blocks(text) if "bitmap_mend" in block[0] and block[0].startswith("$ "))
-    script = next(block for block in blocks(text) if block[0].startswith("open "))
+    scripts = [block for block in blocks(text) if block[0].startswith("open ")]
+    opening, upload = (re.split("  +", line)[0] for line in next(block[:2] for block in scripts if block[1].startswith("region ")))
+    file = written([opening, upload])
     failed = passed = 0
-    for what, given, typed in (*listing_example(listing), *mend_example(mending), *script_example(script), *bitmap_example(text, script)):
+    for what, given, typed in itertools.chain(
+            listing_example(listing), mend_example(mending), *map(script_example, scripts), bitmap_example(text, opening, file),
+            fill_example(text, opening, file)):
         passed += given == typed
         failed += given != typed
         if given != typed:

@@ -2,6 +2,7 @@
 
 By hand: python3 -m tests.bitmaps.reference < FILE.bmp > NORMAL.bmp
 """
+import itertools
 import sys
 
 from tests.panels import PANELS
@@ -36,29 +37,39 @@ def number(file, at, n):
     return int.from_bytes(file[at:at + n], "little")
 
 
-def read(panel, file):
-    """The picture: rows from the top, each X/8 bytes, a 1 is white. None if a rule is broken."""
+def good(panel, file):
+    """Whether a file keeps every rule."""
     width, height, stride = panel.width, panel.height, panel.stride
     if len(file) != file_length(panel):
-        return None
+        return False
     if file[0:2] != b"BM":
-        return None
+        return False
     wanted = [(2, 4, len(file)), (6, 4, 0), (10, 4, 62), (14, 4, 40), (18, 4, width), (22, 4, height),
               (26, 2, 1), (28, 2, 1), (30, 4, 0)]
     for at, n, value in wanted:
         if number(file, at, n) != value:
-            return None
+            return False
     if number(file, 34, 4) not in (0, height * stride):
-        return None
+        return False
     if number(file, 46, 4) not in (0, 2):
+        return False
+    return colours_of(file) in DOTS
+
+
+def colours_of(file):
+    """The palette's two colours; the fourth byte of an entry is free."""
+    return file[54:57], file[58:61]
+
+
+def read(panel, file):
+    """The picture: rows from the top, each X/8 bytes, a 1 is white. None if a rule is broken."""
+    if not good(panel, file):
         return None
-    dots = DOTS.get((file[54:57], file[58:61]))  # the fourth byte of an entry is free
-    if dots is None:
-        return None
+    dots = DOTS[colours_of(file)]
     rows = []
-    for row in range(height):
-        at = HEADER + (height - 1 - row) * stride  # the bottom row comes first
-        rows.append(file[at:at + width // 8].translate(dots))
+    for row in range(panel.height):
+        at = HEADER + (panel.height - 1 - row) * panel.stride  # the bottom row comes first
+        rows.append(file[at:at + panel.width // 8].translate(dots))
     return rows
 
 
@@ -73,6 +84,23 @@ def write(panel, rows):
     header += PALETTE
     body = b"".join(row + bytes(stride - len(row)) for row in reversed(rows))
     return header + body
+
+
+def every_choice(panel):
+    """A good file for each choice that the rules leave: at 34, at 46, and which colour is first."""
+    file = write(panel, [bytes(panel.width // 8)] * panel.height)
+    for size, count, (first, second) in itertools.product((0, panel.height * panel.stride), (0, 2), DOTS):
+        yield (file[:34] + size.to_bytes(4, "little") + file[38:46] + count.to_bytes(4, "little") + file[50:54]
+               + first + file[57:58] + second + file[61:])
+
+
+CHOICES = {panel: tuple(every_choice(panel)) for panel in PANELS}
+
+
+def begins(panel, start):
+    """Whether some rest makes these bytes a good file. What may be anything can stay as it came, so if there is such a rest at all,
+    the end of a file that has made the same choices is one."""
+    return any(good(panel, start + file[len(start):]) for file in CHOICES[panel])
 
 
 def normal(file):

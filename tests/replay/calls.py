@@ -1,127 +1,8 @@
-"""A script in the making, and single random calls for it. The reference answers each call as it is made, and calls are chosen
-by where its store stands."""
-import random
-from collections import Counter
-
+"""Single random calls for a script."""
 from tests.bitmaps import reference as bitmaps
 from tests.panels import PANELS
-from tests.replay import inputs, reference
-
-BACK = 2 ** 31  # the smallest step that is refused
-
-
-class Script:
-    def __init__(self, name, seed=0):
-        self.name, self.seed = name, seed
-        self.rng = random.Random(f"{name} {seed}")
-        self.store = reference.Store()
-        self.calls = []
-        self.answers = []        # by the reference
-        self.typed = {}          # call number: an answer typed by hand; after a * anything may follow
-        self.facts = []          # what, found, typed by hand: found without the program
-        self.shown = {}          # call number of a done: the shown picture from then on
-        self.places = Counter()  # how often something rare was reached
-
-    def call(self, text):
-        run = self.store.running
-        answer = reference.answer(self.store, text)
-        if answer == "0 done":
-            self.shown[len(self.calls)] = self.store.picture(0)
-            self.places.update(finished(run))
-        self.calls.append(text)
-        self.answers.append(answer)
-        return answer
-
-    def expect(self, text, typed):
-        """A call with its answer typed by hand."""
-        self.typed[len(self.calls)] = typed
-        return self.call(text)
-
-    def poll(self, step, length=""):
-        """A poll of the run under way, this many milliseconds after the last accepted reading."""
-        run = self.store.running
-        tick = run.last + step
-        answer = self.call(f"poll {tick % 2 ** 32}{length}")
-        if answer.startswith("0 "):
-            self.places["polls over a wrap of the tick"] += tick >= 2 ** 32
-            self.places["accepted steps of 2^31 - 1"] += step == BACK - 1
-            self.places["polls 1 ms early"] += answer == "0 wait 1"
-        elif answer == "10":
-            self.places["refused steps of 2^31"] += step == BACK
-            self.places["refused steps of 2^32 - 1"] += step == 2 ** 32 - 1
-        if answer.startswith("0 line") and run.next == run.first_stop:
-            self.places["last lines later than F + 120N" if run.passed > run.lines_end() else "last lines by F + 120N"] += 1
-        return answer
-
-    def abandon(self):
-        run = self.store.running
-        if run and self.call("abandon") == "0":
-            self.places["abandoned " + place_name(run)] += 1
-
-
-def finished(run):
-    """What a finished run adds to the count of places."""
-    yield f"runs finished, {run.panel.name} inch"
-    if run.first >= 2 ** 32:
-        yield "runs with F beyond 2^32"
-    if run.wait_before_lines:
-        yield "runs with a wait before the first line"
-    if not run.stop:
-        yield "runs with waits alone to stop" if run.wait_before_done else "runs without stop steps"
-
-
-def place_name(run):
-    stage = run.stage()
-    if stage == 0:
-        return "among the start writes"
-    if stage < 5:
-        return "before the last line" if run.next == run.first_stop - 1 else f"in stage {stage}"
-    if run.next == run.last_thing:
-        return "before done"
-    return "before the first stop write" if run.next == run.first_stop else "among the stop writes"
-
-
-# arguments
-
-def hexadecimal(rng, data):
-    text = data.hex()
-    if not text:
-        return "-"
-    return text if rng.random() < 0.3 else text.upper() if rng.random() < 0.7 else text.title()
-
-
-def any_slot(script):
-    """Mostly one that an upload may name."""
-    n = script.store.slots or 3
-    if script.rng.random() < 0.75:
-        return script.rng.randint(1, n)
-    return script.rng.choice((0, 0, 0, n, n + 1, 8, 255, 256, 257, 2 ** 31, 2 ** 32 - 1))
-
-
-def any_tick(script):
-    rng = script.rng
-    return rng.choice((0, 1, 2 ** 31 - 1, 2 ** 31, 2 ** 32 - 1, 2 ** 32 - rng.randint(1, 5000), rng.randrange(2 ** 32)))
-
-
-def any_panel(script):
-    """The store's panel, if it has one."""
-    return script.store.panel or script.rng.choice(PANELS)
-
-
-def picture_bytes(panel):
-    return panel.width // 8 * panel.height
-
-
-def right_length(script):
-    return (script.store.slots + 1) * script.store.size()
-
-
-def wrong_length(script):
-    right, size = right_length(script), script.store.size()
-    most = reference.MOST_MEMORY
-    wrong = script.rng.choice((0, 1, right - 1, right + 1, right - size, right + size, most, script.rng.randrange(right)))
-    return wrong if wrong != right and wrong <= most else 0
-
+from tests.replay import cuts, fills, inputs, reference
+from tests.replay.script import BACK, any_panel, any_slot, any_tick, hexadecimal, picture_bytes, right_length, wrong_length
 
 # calls that open and end nothing
 
@@ -214,7 +95,7 @@ def wrong_memory(script):
         return
     script.call(f"lend {wrong_length(script)}")
     for _ in range(rng.randint(1, 4)):
-        rng.choice((region, bitmap, write, start, poll, refused_poll, abandon))(script)
+        rng.choice((region, bitmap, write, start, poll, refused_poll, abandon, *fills.ANY))(script)
     script.call(f"lend {right_length(script)}")
 
 
@@ -234,6 +115,9 @@ MALFORMED = (
     "poll", "poll ", "poll -", "poll 1 2 3", "poll 4294967296", "poll 1 6399", "poll 1 117 ", "poll 1 -", "polls 1", "pol 1",
     "poll 1\x00", "poll 1 4294967413", "poll 99999999999999999999999999999999", "poll 18446744073709551617", "poll \xB2",
     "poll 1\xA0117", "abandon 1", "abandon ", " abandon", "abandoned", "abando", "abandon\r", "abandon\x00", "ABANDON",
+    "begin", "begin ", "begin -", "begin 1 1", "begin 1 42", "begin 4294967296", "begin one", "begin  1", "begins 1", "BEGIN 1",
+    "chunk", "chunk ", "chunk 4", "chunk 42 4D", "chunk 1 42", "chunk --", "chunk -42", "chunk 4G", "chunk  42", "chunk\t42", "Chunk 42",
+    "finish ", "finish 1", "finish -", "finished", "finis", "FINISH", "cancel ", "cancel 1", "cancel -", "cancels", "cance", "cancel\r",
     "write", "write ", "write 1 6399", "write -1", "write 1 1 1", "write 1  1598", "write\x001", "write 4294967296",
     "done", "quit", "# note", "\xB2", "\xFF\xFE", "\xEF\xBB\xBFabandon",
 )
@@ -248,7 +132,7 @@ def malformed(script):
 
 
 STAYING = (region, bitmap, upload_to_slot_of_run, write, start, refused_poll, refused_poll, abandon_without_run, wrong_memory,
-           malformed)
+           malformed, *[fills.next_call] * 4)
 
 
 def other_call(script):
@@ -283,17 +167,22 @@ def refused_opening(script):
 
 
 def upload(script, slot):
-    """A whole picture and some regions."""
+    """A whole picture, at once or by chunks, and some regions."""
     rng, panel = script.rng, script.store.panel
-    if rng.random() < 0.8:
-        script.call(f"bitmap {slot} {hexadecimal(rng, inputs.bitmap(rng, panel))}")
+    file = inputs.bitmap(rng, panel)
+    if script.store.fill is None and rng.random() < 0.4:
+        fills.send(script, slot, cuts.cut(rng, panel, file, rng.choice(cuts.FEW)))
+    elif rng.random() < 0.7:
+        script.call(f"bitmap {slot} {hexadecimal(rng, file)}")
     for _ in range(rng.randint(0, 5)):
         x, y, width, height = inputs.region(rng, panel)
         script.call(f"region {slot} {x} {y} {width} {height} {hexadecimal(rng, inputs.payload(rng, width, height))}")
 
 
-def begin(script):
+def upload_and_start(script):
     """An upload to some slot and a start with it."""
     slot = script.rng.randint(1, script.store.slots)
+    if script.store.filled(slot):
+        fills.end(script)
     upload(script, slot)
     script.call(f"start {slot} {any_tick(script)}")

@@ -16,7 +16,14 @@ from tests.replay import examples, reference, scripts
 
 SEED = "1"
 LEAST_SCRIPTS, LEAST_CALLS = 200, 500_000
-NUMBERS = [str(number) for number in range(14)]  # 14 is given by the C calls alone
+# the numbers that each call refuses with; every one of them must be given, and no other
+REFUSALS = {
+    "open": (2, 1), "lend": (), "region": (13, 1, 3, 7, 15, 5, 6), "bitmap": (13, 1, 3, 7, 15, 4), "begin": (13, 1, 3, 7, 15, 16),
+    "chunk": (13, 1, 17, 4), "finish": (13, 1, 17, 4), "cancel": (13, 1, 17), "start": (13, 1, 8, 12, 3, 15), "poll": (13, 1, 9, 11, 10),
+    "abandon": (13, 1, 9), "write": (13, 1, 3, 11),
+}
+NUMBERS = sorted({0}.union(*REFUSALS.values()))
+LEAST_GIVEN = 100  # of each of 15, 16, 17, and of 4 by a fill
 FAILED_SCRIPT = "target/tests/replay_failed.txt"
 SECONDS = 60  # a program that takes longer for a script has failed
 
@@ -152,19 +159,31 @@ class Results:
         self.failed += comparison.failed
 
     def table(self):
-        numbers = NUMBERS + ["?"]
+        numbers = [*map(str, NUMBERS), "?"]
         print("given     " + "".join(f"{number:>7}" for number in numbers))
-        for name in (*reference.CALLS, "no call"):
+        for name in (*REFUSALS, "no call"):
             print(f"{name:10}" + "".join(f"{self.given[name, number] or '-':>7}" for number in numbers))
-        totals = [sum(self.given[name, number] for name in (*reference.CALLS, "no call")) for number in numbers]
-        print("in all    " + "".join(f"{total:>7}" for total in totals))
-        missing = [number for number, total in zip(numbers, totals) if total == 0]
-        self.judge(not missing, lambda: "never given: " + ", ".join(missing))
+        print("in all    " + "".join(f"{self.in_all(number):>7}" for number in numbers))
         print("polls: " + ", ".join(f"{kind} {self.polls[kind]}" for kind in ("write", "line", "wait", "done")))
+
+    def in_all(self, number):
+        return sum(count for (_, given), count in self.given.items() if given == number)
+
+    def judge_numbers(self):
+        """Each call must have given the numbers of its own and no others, and those of fills often enough."""
+        wanted = {(name, str(number)) for name, numbers in REFUSALS.items() for number in (0, *numbers)} | {("no call", "?")}
+        given = {pair for pair, count in self.given.items() if count}
+        self.judge(wanted <= given, lambda: f"never given: {sorted(wanted - given)}")
+        self.judge(given <= wanted, lambda: f"given by a call that does not have it: {sorted(given - wanted)}")
+        counts = {number: self.in_all(number) for number in ("15", "16", "17")}
+        counts["4 by a fill"] = self.given["chunk", "4"] + self.given["finish", "4"]
+        for number, count in counts.items():
+            self.judge(count >= LEAST_GIVEN, lambda: f"{number} was given {count} times, at least {LEAST_GIVEN} are wanted")
 
     def summary(self):
         print(f"{self.scripts} scripts, {self.calls} calls")
         self.table()
+        self.judge_numbers()
         for place in scripts.PLACES_TO_REACH:
             print(f"{place}: {self.places[place]}")
             self.judge(self.places[place] > 0, lambda: f"never reached: {place}")

@@ -1,7 +1,7 @@
 """Fixed scripts. Their answers were typed from the rules; they come neither from the program nor from the reference."""
 from simulator.panel import Glass
 from tests.panels import PANELS
-from tests.replay.calls import Script
+from tests.replay.script import Script
 
 FILE = "01 00 02 57 01 00 00 00 00 00 0F FF 00 57 04 03 01 44 00 0F".replace(" ", "")  # 1.44 inch, a wait of 15 ms to stop
 FILE_2 = "01 01 02 57 01 00 00 00 00 01 FF E0 00 57 04 03 00".replace(" ", "")          # 2 inch, no stop steps
@@ -79,11 +79,15 @@ def scan_bytes(script):
     script.expect("write 0", bitmap_file("FF" * 16))
 
 
-def bitmap_file(top_row):
-    """The writer's file of a 1.44 inch picture that is white below its top row."""
-    header = ("424D 3E060000 00000000 3E000000 28000000 80000000 60000000 0100 0100 00000000 00060000"
-              "00000000 00000000 00000000 00000000 00000000 FFFFFF00").replace(" ", "")
-    return "0 " + header + "FF" * 16 * 95 + top_row
+# the header of the writer's file of a 1.44 inch picture
+BITMAP_HEADER = ("424D 3E060000 00000000 3E000000 28000000 80000000 60000000 0100 0100 00000000 00060000"
+                 "00000000 00000000 00000000 00000000 00000000 FFFFFF00").replace(" ", "")
+WHITE_ROW = "FF" * 16
+
+
+def bitmap_file(top_row, bottom_row=WHITE_ROW):
+    """The writer's file of a 1.44 inch picture that is white between its top and bottom row."""
+    return "0 " + BITMAP_HEADER + bottom_row + WHITE_ROW * 94 + top_row
 
 
 def regions(script):
@@ -103,7 +107,7 @@ def palettes(script):
     """A picture of one row that is not white, sent with black first and with white first; then other palettes."""
     written = bitmap_file("E7" + "FF" * 15)
     black_first = written[2:]
-    header = black_first[:108]
+    header = BITMAP_HEADER[:108]
     white_first = header + "FFFFFF00 00000000".replace(" ", "") + "00" * 16 * 95 + "18" + "00" * 15
     free = header + "FFFFFFA5 0000005A".replace(" ", "") + white_first[124:]
     script.expect(f"open 3 {FILE}", "0")
@@ -114,6 +118,101 @@ def palettes(script):
                     "000000FF FFFF0000", "00FFFFFF 00000000"):
         script.expect(f"bitmap 2 {header}{colours.replace(' ', '')}{white_first[124:]}", "4")
     script.expect("write 2", written)
+
+
+def fill(script):
+    """A file by chunks: a row is there with the last byte of its stride, the bottom row first. Until then the slot is as it was."""
+    before = bitmap_file("E7" + "FF" * 15)
+    for text, typed in (
+            (f"open 2 {FILE}", "0"), ("region 1 3 0 2 1 00", "0"), ("begin 1", "0"), ("write 1", before),
+            ("chunk " + BITMAP_HEADER[:10], "0"), ("chunk -", "0"), ("chunk " + BITMAP_HEADER[10:124], "0"), ("write 1", before),
+            ("chunk " + "00" * 15, "0"), ("write 1", before), ("chunk 7E", "0"),
+            ("write 1", bitmap_file("E7" + "FF" * 15, "00" * 15 + "7E")), ("write 2", bitmap_file(WHITE_ROW)),
+            ("chunk " + WHITE_ROW * 94 + "81" * 15, "0"), ("write 1", bitmap_file("E7" + "FF" * 15, "00" * 15 + "7E")),
+            ("chunk 42", "0"), ("write 1", bitmap_file("81" * 15 + "42", "00" * 15 + "7E")), ("chunk -", "0"), ("finish", "0"),
+            ("write 1", bitmap_file("81" * 15 + "42", "00" * 15 + "7E")), ("finish", "17"), ("chunk -", "17"), ("cancel", "17")):
+        script.expect(text, typed)
+
+
+def fill_with_white_first(script):
+    """Each dot is turned over, also where the header comes by single bytes."""
+    header = BITMAP_HEADER[:108] + "FFFFFF5A 000000A5".replace(" ", "")
+    script.expect(f"open 1 {FILE}", "0")
+    script.expect("begin 1", "0")
+    for at in range(0, 124, 2):
+        script.expect("chunk " + header[at:at + 2], "0")
+    script.expect("chunk " + "01" * 16 + "00" * 16 * 94, "0")
+    script.expect("chunk " + "18" * 16, "0")
+    script.expect("finish", "0")
+    script.expect("write 1", bitmap_file("E7" * 16, "FE" * 16))
+
+
+def fill_with_padding(script):
+    """A row of the 2 inch panel has three bytes of padding, which may be anything; with the last of them it is there."""
+    header = ("424D BE0A0000 00000000 3E000000 28000000 C8000000 60000000 0100 0100 00000000 800A0000"
+              "00000000 00000000 00000000 00000000 00000000 FFFFFF00").replace(" ", "")
+    white, black = "FF" * 25 + "000000", "00" * 25 + "000000"
+    for text, typed in (
+            (f"open 1 {FILE_2}", "0"), ("begin 1", "0"), ("chunk " + header, "0"), ("chunk " + "00" * 25 + "A5", "0"),
+            ("write 1", "0 " + header + white * 96), ("chunk A5", "0"), ("write 1", "0 " + header + white * 96), ("chunk A5", "0"),
+            ("write 1", "0 " + header + black + white * 95), ("chunk " + "00" * 25 + "A5A5", "0"),
+            ("write 1", "0 " + header + black + white * 95), ("chunk A5" + "00" * 5, "0"),
+            ("write 1", "0 " + header + black * 2 + white * 94), ("chunk " + "FF" * (94 * 28 - 6), "0"),
+            ("finish", "4"), ("write 1", "0 " + header + white * 96),
+            ("begin 1", "0"), ("chunk " + header[:68], "0"), ("chunk 80", "0"), ("chunk 0A", "0"), ("chunk 0000", "0"), ("cancel", "0"),
+            ("begin 1", "0"), ("chunk " + header[:68], "0"), ("chunk 00", "0"), ("chunk 00", "0"), ("chunk 0000", "0"), ("cancel", "0"),
+            ("begin 1", "0"), ("chunk " + header[:68], "0"), ("chunk 80", "0"), ("chunk 00", "4"),  # neither of the two at 34
+            ("begin 1", "0"), ("chunk " + header[:68], "0"), ("chunk 00", "0"), ("chunk 0A", "4")):
+        script.expect(text, typed)
+
+
+def refused_fills(script):
+    """What ends a fill leaves its slot white and the others as they are; then no fill is begun."""
+    white, black = bitmap_file(WHITE_ROW), "0 " + BITMAP_HEADER + "00" * 1536
+    header, rows = BITMAP_HEADER, "00" * 1536
+    script.expect(f"open 2 {FILE}", "0")
+    script.expect("region 2 0 0 128 96 " + rows, "0")
+    for *taken, (last, number) in (
+            [("43", "4")], [("42", "0"), ("4E", "4")], [("424D3E06", "0"), ("0000", "0"), ("01", "4")],
+            [(header[:68], "0"), ("00", "0"), ("0006", "4")],           # 00 06 00 00 or zeros at 34
+            [(header[:68], "0"), ("0006", "0"), ("00", "0"), ("01", "4")],
+            [(header[:92], "0"), ("02", "0"), ("02", "4")],             # 0 or 2 at 46
+            [(header[:108], "0"), ("00", "0"), ("FF", "4")],            # neither black nor white
+            [(header[:108], "0"), ("FFFFFF77", "0"), ("FF", "4")],      # white twice
+            [(header[:108], "0"), ("00000077", "0"), ("FFFF", "0"), ("FE", "4")],
+            [(header + rows, "0"), ("00", "4")], [(header + rows + "00", "4")], [(header + rows[2:], "0"), ("0000", "4")]):
+        script.expect("region 1 0 0 128 96 " + rows, "0")
+        script.expect("begin 1", "0")
+        for piece, typed in (*taken, (last, number)):
+            script.expect("chunk " + piece, typed)
+        for text, typed in (("write 1", white), ("write 2", black), ("chunk -", "17"), ("finish", "17"), ("cancel", "17")):
+            script.expect(text, typed)
+    for came in ((), ("-",), ("42",), (header,), (header, rows[2:]), (header + rows[2:],)):
+        for end, typed in (("finish", "4"), ("cancel", "0")):
+            script.expect("region 1 0 0 128 96 " + rows, "0")
+            for text in ("begin 1", *("chunk " + piece for piece in came)):
+                script.expect(text, "0")
+            for text, number in ((end, typed), ("write 1", white), ("write 2", black), ("finish", "17")):
+                script.expect(text, number)
+
+
+def fill_orders(script):
+    """The numbers of fills, and of other calls while a slot is filled, with several faults at once."""
+    none_begun = ("chunk 00", "17"), ("chunk -", "17"), ("finish", "17"), ("cancel", "17")
+    faulty = "begin 0", "begin 1", "begin 2", "chunk 00", "finish", "cancel", "bitmap 2 -", "region 2 0 0 0 0 -", "start 2 0"
+    wrong_memory = ("lend 4607", "0"), *((text, "1") for text in faulty), ("lend 6144", "0")
+    on_filled = ("begin 2", "15"), ("bitmap 2 -", "15"), ("region 2 0 0 0 0 -", "15"), ("write 2", bitmap_file(WHITE_ROW))
+    for text, typed in (
+            ("begin 0", "13"), ("chunk 00", "13"), ("finish", "13"), ("cancel", "13"), (f"open 3 {FILE}", "0"),
+            *none_begun, *wrong_memory, ("begin 0", "3"), ("begin 4", "3"), *none_begun,
+            ("begin 2", "0"), *wrong_memory, *on_filled, ("start 2 0", "15"), ("begin 0", "3"), ("begin 4", "3"), ("begin 1", "16"),
+            ("begin 3", "16"), ("start 0 0", "3"), ("start 4 0", "3"), ("region 1 0 0 1 1 00", "0"), ("bitmap 3 -", "4"),
+            ("start 1 0", "0"), *wrong_memory, *on_filled, ("start 2 0", "8"), ("begin 1", "7"), ("begin 3", "16"), ("bitmap 1 -", "7"),
+            ("poll 0", START_WRITES[0]), ("chunk 424D", "0"), ("poll 0", START_WRITES[1]), ("abandon", "0"),
+            ("start 2 0", "12"), *on_filled, ("begin 1", "16"), ("region 1 0 0 1 1 00", "0"), ("chunk 3E", "0"), ("cancel", "0"),
+            *none_begun, ("begin 1", "0"), ("begin 1", "15"), ("begin 2", "16"), (f"open 3 {FILE}", "0"), *none_begun,
+            ("begin 1", "0"), ("open 0 00", "2"), ("chunk 00", "13"), ("cancel", "13"), (f"open 3 {FILE}", "0"), *none_begun):
+        script.expect(text, typed)
 
 
 def steps(script):
@@ -199,7 +298,8 @@ def orders(script):
 
 
 def fixed_scripts():
-    for make in (dot_codes, net_pushes, scan_bytes, regions, palettes, steps, early_poll, late_frame, end_in_time, end_late, orders):
+    for make in (dot_codes, net_pushes, scan_bytes, regions, palettes, fill, fill_with_white_first, fill_with_padding, refused_fills,
+                 fill_orders, steps, early_poll, late_frame, end_in_time, end_late, orders):
         script = Script(make.__name__)
         make(script)
         yield script

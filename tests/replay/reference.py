@@ -114,6 +114,14 @@ class Run:
         return (self.next - self.first_line) % self.panel.height
 
 
+class Fill:
+    """A bitmap file on its way into a slot."""
+
+    def __init__(self, slot):
+        self.slot = slot
+        self.came = b""  # of the file, so far
+
+
 class Store:
     """The store and the memory that the program lends it. A call answers a number, or 0 and what it gives."""
 
@@ -125,6 +133,7 @@ class Store:
         self.start_steps = self.stop_steps = ([], 0)
         self.running = None
         self.abandoned = False
+        self.fill = None
 
     def size(self):
         return self.panel.width // 8 * self.panel.height
@@ -138,7 +147,7 @@ class Store:
         return bytes(self.memory[at:at + length])
 
     def open(self, n, file, length=None):
-        self.panel = self.running = None
+        self.panel = self.running = self.fill = None
         self.abandoned = False
         try:
             panel, start, stop = settings.read_settings(file)
@@ -163,12 +172,17 @@ class Store:
         return 0 if self.lent == (self.slots + 1) * self.size() else 1
 
     def no_upload(self, slot):
-        """The numbers that both uploads look at before what they bring."""
+        """The numbers that both uploads look at before what they bring, and a begin before 16."""
         if self.unusable():
             return self.unusable()
         if not 1 <= slot <= self.slots:
             return 3
-        return 7 if self.running and self.running.slot == slot else 0
+        if self.running and self.running.slot == slot:
+            return 7
+        return 15 if self.filled(slot) else 0
+
+    def filled(self, slot):
+        return self.fill is not None and self.fill.slot == slot
 
     def region(self, slot, x, y, width, height, payload):
         refusal = self.no_upload(slot)
@@ -203,8 +217,66 @@ class Store:
         rows = bitmaps.read(self.panel, file)
         if rows is None:
             return 4
-        self.memory[slot * self.size():(slot + 1) * self.size()] = b"".join(rows)
+        self.put_picture(slot, b"".join(rows))
         return 0
+
+    def put_picture(self, slot, picture):
+        self.memory[slot * self.size():(slot + 1) * self.size()] = picture
+
+    def begin(self, slot):
+        refusal = self.no_upload(slot)
+        if refusal:
+            return refusal
+        if self.fill:
+            return 16
+        self.fill = Fill(slot)
+        return 0
+
+    def no_fill(self):
+        """The numbers that chunk, finish and cancel look at before the file."""
+        if self.unusable():
+            return self.unusable()
+        return 0 if self.fill else 17
+
+    def chunk(self, more):
+        if self.no_fill():
+            return self.no_fill()
+        fill = self.fill
+        before = self.whole_rows(fill)
+        fill.came += more
+        if not bitmaps.begins(self.panel, fill.came):
+            return self.end_fill(4)
+        for count in range(before, self.whole_rows(fill)):
+            self.put_row(fill, count)
+        return 0
+
+    def whole_rows(self, fill):
+        """How many rows have come, each with its padding."""
+        return max(0, len(fill.came) - bitmaps.HEADER) // self.panel.stride
+
+    def put_row(self, fill, count):
+        """The row that came after so many others: the bottom one is the first."""
+        at = bitmaps.HEADER + count * self.panel.stride
+        dots = fill.came[at:at + self.panel.width // 8].translate(bitmaps.DOTS[bitmaps.colours_of(fill.came)])
+        end = (fill.slot + 1) * self.size() - count * len(dots)
+        self.memory[end - len(dots):end] = dots
+
+    def finish(self):
+        if self.no_fill():
+            return self.no_fill()
+        if not bitmaps.good(self.panel, self.fill.came):
+            return self.end_fill(4)
+        self.fill = None
+        return 0
+
+    def cancel(self):
+        return self.no_fill() or self.end_fill(0)
+
+    def end_fill(self, answer):
+        """A fill that comes to nothing leaves its slot white."""
+        self.put_picture(self.fill.slot, b"\xFF" * self.size())
+        self.fill = None
+        return answer
 
     def start(self, slot, tick):
         if self.unusable():
@@ -215,6 +287,8 @@ class Store:
             return 12
         if not 1 <= slot <= self.slots:
             return 3
+        if self.filled(slot):
+            return 15
         self.running = Run(self.panel, self.start_steps, self.stop_steps, slot, tick)
         return 0
 
@@ -311,6 +385,10 @@ CALLS = {
     "lend": ((memory_length,), 1),
     "region": ((number, number, number, number, number, data), 6),
     "bitmap": ((number, data), 2),
+    "begin": ((number,), 1),
+    "chunk": ((data,), 1),
+    "finish": ((), 0),
+    "cancel": ((), 0),
     "start": ((number, number), 2),
     "poll": ((number, output_length), 1),
     "abandon": ((), 0),

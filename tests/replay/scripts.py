@@ -1,9 +1,10 @@
 """Random scripts of calls for the replay program, of several kinds."""
 from collections import namedtuple
 
+from tests.bitmaps.reference import HEADER
 from tests.panels import PANELS
-from tests.replay import calls, inputs
-from tests.replay.calls import BACK, Script
+from tests.replay import calls, cuts, fills, inputs
+from tests.replay.script import BACK, Script
 
 # chances of a call that does not move the run on, of a poll before a thing is due, of a late poll, and of a delay inside a
 # frame; and the most milliseconds late
@@ -14,6 +15,7 @@ LATE = Habits(0.005, 0.3, 0.3, 0.002, 40)
 VERY_LATE = Habits(0.01, 0.3, 0.1, 0.003, 400)
 FAR = Habits(0.005, 0.2, 0.1, 0.0005, BACK - 1)
 HABITS = (PUNCTUAL, LATE, VERY_LATE, FAR)
+FILLING = Habits(0.03, 0.3, 0.1, 0.001, 40)
 
 
 def lateness(rng, habits):
@@ -32,13 +34,13 @@ def next_step(script, habits):
     return min(BACK - 1, to_go + (lateness(rng, habits) if rng.random() < habits.late else 0))
 
 
-def poll_on(script, habits, until=None):
+def poll_on(script, habits, until=None, other=calls.other_call):
     """Polls to the end of the run, or until so many things were handed out."""
     run, rng = script.store.running, script.rng
     while script.store.running is run and (until is None or run.next < until):
         chance = rng.random()
         if chance < habits.other:
-            calls.other_call(script)
+            other(script)
         else:
             script.poll(next_step(script, habits), rng.choice(("", " 117", " 118", " 6398")) if chance < 0.05 else "")
 
@@ -64,16 +66,54 @@ def there_and_back(script, panel):
 def whole_runs(script, panel, runs):
     calls.open_store(script, panel)
     for _ in range(runs):
-        calls.begin(script)
+        calls.upload_and_start(script)
         poll_on(script, script.rng.choice(HABITS))
         calls.write_all(script)
+
+
+def filled_runs(script, panel):
+    """Runs, and fills of other slots between their polls."""
+    calls.open_store(script, panel, n=script.rng.randint(2, 7))
+    for _ in range(2):
+        calls.upload_and_start(script)
+        poll_on(script, FILLING, other=fills.next_call)
+        calls.write_all(script)
+
+
+def cut_fills(script, panel):
+    """Good files with both orders of the palette, cut in every way; and cut once at each place of the header."""
+    rng = script.rng
+    calls.open_store(script, panel, n=2)
+    for way in (cuts.every_byte, *cuts.FEW, *cuts.MANY):
+        file = inputs.bitmap(rng, panel)
+        for slot, order in ((1, file), (2, cuts.other_order(file))):
+            fills.send(script, slot, cuts.cut(rng, panel, order, way))
+    for place in range(HEADER + 2):
+        fills.send(script, rng.randint(1, 2), cuts.cut_at(inputs.bitmap(rng, panel), [place]))
+
+
+def damaged_fills(script, panel):
+    """Files with a fault in each byte of the header, ones that mix good values, longer ones, and ones that end early."""
+    rng = script.rng
+    calls.open_store(script, panel, n=2)
+    files = [*cuts.spoiled(rng, panel), *(cuts.damaged(rng, panel) for _ in range(40)), *(cuts.mixed(rng, panel) for _ in range(40))]
+    for file in files:
+        fills.send(script, rng.randint(1, 2), cuts.cut(rng, panel, file, rng.choice((cuts.every_byte_of_header, *cuts.FEW))))
+    whole = inputs.bitmap(rng, panel)
+    for pieces in ([whole, b"\0"], [whole + b"\0"], [whole, whole], [whole, b"", b"\0"], [whole[:-1], b"\0\0"]):
+        fills.send(script, 1, pieces)
+    for length in (0, 1, 2, HEADER - 1, HEADER, HEADER + 1, HEADER + panel.stride - 1, HEADER + panel.stride, len(whole) - panel.stride,
+                   len(whole) - 1):
+        for way in (cuts.nowhere, rng.choice(cuts.MANY)):
+            script.call(f"bitmap 1 {whole.hex()}")
+            fills.send(script, 1, cuts.cut(rng, panel, whole[:length], way))
 
 
 def far_first_line(script, panel):
     """Long steps among the start writes, so that F lies beyond 2^32."""
     start = inputs.every_register(script.rng, panel)
     calls.open_store(script, panel, inputs.joined(panel.code, start, inputs.stop_steps(script.rng, panel)))
-    calls.begin(script)
+    calls.upload_and_start(script)
     while script.store.running.stage() == 0:
         script.poll(BACK - script.rng.choice((1, 1, 1, 500)))
     poll_on(script, script.rng.choice((PUNCTUAL, LATE)))
@@ -108,13 +148,13 @@ def abandoned(script, panel, place):
     """A run abandoned in this place, and what can be called then. After it a piece of a run that an opening ends."""
     rng = script.rng
     calls.open_store(script, panel, inputs.with_all_registers(rng, panel))
-    calls.begin(script)
+    calls.upload_and_start(script)
     run = script.store.running
     poll_on(script, rng.choice(HABITS), things_before(script, place))
     script.abandon()
     after_abandon(script, run.slot)
     calls.open_store(script)
-    calls.begin(script)
+    calls.upload_and_start(script)
     poll_on(script, rng.choice(HABITS), rng.randint(0, 400))
     rng.choice((calls.open_store, calls.refused_opening))(script)
     some_calls(script)
@@ -123,14 +163,14 @@ def abandoned(script, panel, place):
 def reopened(script, panel, place):
     """An opening in the middle of a run, and a piece of a run in the new store."""
     calls.open_store(script, panel, inputs.with_all_registers(script.rng, panel))
-    calls.begin(script)
+    calls.upload_and_start(script)
     poll_on(script, script.rng.choice(HABITS), things_before(script, place))
     if place % 2:
         calls.refused_opening(script)
         some_calls(script)
     calls.open_store(script)
     calls.write_all(script)
-    calls.begin(script)
+    calls.upload_and_start(script)
     poll_on(script, script.rng.choice(HABITS), 300)
 
 
@@ -147,21 +187,22 @@ def any_calls(script, count):
             if rng.random() < 0.1:
                 script.abandon()
         else:
-            rng.choice((calls.region, calls.bitmap, calls.write, calls.start, calls.begin, some_calls))(script)
+            rng.choice((calls.region, calls.bitmap, calls.write, calls.start, calls.upload_and_start, fills.next_call, some_calls))(script)
         if rng.random() < 0.05:
             rng.choice((calls.write_all, calls.open_store, calls.refused_opening))(script)
     calls.write_all(script)
 
 
 def malformed_lines(script):
-    """Lines that are no call, lines at the limit of length and numbers with zeros in front: before an opening, at rest, in a run
-    and after an abandon."""
+    """Lines that are no call, lines at the limit of length and numbers with zeros in front: before an opening, at rest, in a fill, in
+    a run and after an abandon."""
     long_lines = ["bitmap 1 " + "0" * length for length in (16374, 16375, 16376, 16377, 30000)]
     long_lines += ["bitmap 10 " + "A" * length for length in (16373, 16374, 16375, 16376, 100000)]
     long_lines += ["region 1 0 0 128 96 " + "f" * length for length in (16363, 16364, 16365, 16366)]
     long_lines += ["poll " + "0" * 16378 + "7", "poll " + "0" * 16379 + "7", "poll " + "9" * 16379, " " * 16384, " " * 16385]
-    long_lines += ["open 1 " + "0" * 16378, "write 000001 0000001597"]
-    for prepare in ("abandon", "open 1 " + inputs.settings_file(script.rng, PANELS[0]).hex(), "start 1 0", "abandon"):
+    long_lines += ["open 1 " + "0" * 16378, "write 000001 0000001597", "chunk " + "0" * 16379, "chunk " + "0" * 16380]
+    long_lines += ["chunk " + "0" * 16377, "chunk " + "0" * 16378]  # the last of them is a call, and ends a fill
+    for prepare in ("abandon", "open 1 " + inputs.settings_file(script.rng, PANELS[0]).hex(), "begin 0001", "start 1 0", "abandon"):
         script.call(prepare)
         for text in (*calls.MALFORMED, *long_lines):
             script.call(text)
@@ -173,6 +214,9 @@ def plan():
     for panel in PANELS:
         yield there_and_back, panel
         yield from [(whole_runs, panel, 2)] * (6 if panel.name == "2.7" else 9)
+        yield filled_runs, panel
+        yield cut_fills, panel
+        yield damaged_fills, panel
         yield far_first_line, panel
         for place in range(9):
             yield abandoned, panel, place
@@ -194,6 +238,12 @@ PLACES_TO_REACH = (
     "runs with a wait before the first line", "runs with waits alone to stop", "runs without stop steps",
     "runs with F beyond 2^32", "last lines by F + 120N", "last lines later than F + 120N",
     "bitmaps taken with white first", "bitmaps refused for the palette alone",
+    *(f"fills finished, {panel.name} inch" for panel in PANELS), "fills finished, black first", "fills finished, white first",
+    *(f"chunks taken, to {end}" for end in (
+        "a field's end", "the inside of a field", "the header's end", "the inside of a row", "the padding", "one byte before a row's end",
+        "a row's end", "the file's end")),
+    *(f"fills refused at {at}" for at, _ in inputs.LOOKED_AT), "fills refused after the file's end", "fills finished too early",
+    "fills cancelled", "dones while a slot is filled", "openings while a slot is filled",
     "polls 1 ms early", "polls over a wrap of the tick", "accepted steps of 2^31 - 1", "refused steps of 2^31",
     "refused steps of 2^32 - 1",
     "abandoned among the start writes", *(f"abandoned in stage {stage}" for stage in (1, 2, 3, 4)),

@@ -57,7 +57,7 @@ number-more at out d j i n left e p q h =
 
 -- ---- there and back
 
-number-tail : (size x at : ℕ) (file : List ℕ) → numberAt size (x ∷ file) (suc at) ≡ numberAt size file at
+pub number-tail : (size x at : ℕ) (file : List ℕ) → numberAt size (x ∷ file) (suc at) ≡ numberAt size file at
 number-tail zero x at file = refl
 number-tail (suc size) x at file = ap (λ (m : ℕ). getD file at 0 + 256 * m) (number-tail size x (suc at) file)
 

@@ -94,6 +94,29 @@ read-all b h s file old size =
     let l : length picture ≡ h * b = length-read b h s file in
     rw (take-all (h * b) picture (omega arith)) (overlay-whole picture old (omega arith))
 
+-- a row of the picture: the dots of a row of the file, counted from its other end
+abbrev rowIn : (b h s : ℕ) (file : List ℕ) (y : ℕ) → List ℕ
+rowIn b h s file y = map (dotsOf (paletteOf file)) (take b (drop (headerLength + (h - 1 - y) * s) file))
+
+pub read-row : (b h s : ℕ) → 0 < b → b ≤ s → (file : List ℕ) (y : ℕ) → y < h → headerLength + (h - 1 - y) * s + b ≤ length file
+    → pictureRow b (readPicture b h s file) y ≡ rowIn b h s file y
+read-row b h s some within file y low room =
+    let picture : List ℕ = readPicture b h s file in
+    let at : ℕ = headerLength + (h - 1 - y) * s in
+    let e : length (pictureRow b picture y) ≡ b =
+    part-length (y * b) b picture (omega (arith, length-read b h s file, more-rows y h b low)) in
+    let bits : List ℕ = take b (drop at file) in
+    let g : length bits ≡ b = part-length at b file room in
+    let f : length (rowIn b h s file y) ≡ b = length-map bits (dotsOf (paletteOf file)) ∙ g in
+    ext-getD 0 (pictureRow b picture y) (rowIn b h s file y) (e ∙ sym f)
+    (λ i l.
+    let q : i < b = omega (arith, e) in
+    getD-take b (drop (y * b) picture) i 0 q
+    ∙ getD-drop (y * b) picture i 0
+    ∙ read-byte b h s some within file y i low q
+    ∙ ap (dotsOf (paletteOf file)) (sym (getD-take b (drop at file) i 0 q ∙ getD-drop at file i 0 ∙ rw add-assoc))
+    ∙ at-map (dotsOf (paletteOf file)) 0 bits i 0 (omega arith))
+
 module _ (b h s : ℕ) (some : 0 < b) (within : b ≤ s) (file : List ℕ) (bytes : Bytes file) (old : List ℕ) (rows : Rows b h old) where
   rows-part : (y : ℕ) → Rows b h (partRead b h s file old y)
   rows-part y =
@@ -105,40 +128,19 @@ module _ (b h s : ℕ) (some : 0 < b) (within : b ≤ s) (file : List ℕ) (byte
       )
 
   module _ (room : fileLength h s ≤ length file) (y : ℕ) (low : y < h) where
-    -- a row of the picture: the dots of a row of the file, counted from its other end
-    abbrev rowIn : List ℕ
-    rowIn = map (dotsOf (paletteOf file)) (take b (drop (headerLength + (h - 1 - y) * s) file))
-
-    read-row : pictureRow b (readPicture b h s file) y ≡ rowIn
-    read-row =
-        let picture : List ℕ = readPicture b h s file in
-        let at : ℕ = headerLength + (h - 1 - y) * s in
-        let e : length (pictureRow b picture y) ≡ b =
-        part-length (y * b) b picture (omega (arith, length-read b h s file, more-rows y h b low)) in
-        let bits : List ℕ = take b (drop at file) in
-        let g : length bits ≡ b = part-length at b file (omega (arith, more-rows (h - 1 - y) h s (omega arith))) in
-        let f : length rowIn ≡ b = length-map bits (dotsOf (paletteOf file)) ∙ g in
-        ext-getD 0 (pictureRow b picture y) rowIn (e ∙ sym f)
-        (λ i l.
-        let q : i < b = omega (arith, e) in
-        getD-take b (drop (y * b) picture) i 0 q
-        ∙ getD-drop (y * b) picture i 0
-        ∙ read-byte b h s some within file y i low q
-        ∙ ap (dotsOf (paletteOf file)) (sym (getD-take b (drop at file) i 0 q ∙ getD-drop at file i 0 ∙ rw add-assoc))
-        ∙ at-map (dotsOf (paletteOf file)) 0 bits i 0 (omega arith))
-
     -- a turn of the loop: one row more, right after those that are there already
     pub read-next : {d e : List ℕ} → d ≡ rawOf b h (partRead b h s file old y)
-        → e ≡ rawOf b h (overlayAt (y * b) rowIn (pictureOf b h d)) → e ≡ rawOf b h (partRead b h s file old (y + 1))
+        → e ≡ rawOf b h (overlayAt (y * b) (rowIn b h s file y) (pictureOf b h d)) → e ≡ rawOf b h (partRead b h s file old (y + 1))
     read-next {d} {e} p q =
         let picture : List ℕ = readPicture b h s file in
         let front : List ℕ = take (y * b) picture in
         let more : y * b + b ≤ h * b = more-rows y h b low in
         let l : length front ≡ y * b = length-take-le (y * b) picture (omega (arith, length-read b h s file)) in
         let f : (y + 1) * b ≡ y * b + b = rw add-one (suc-mul y b) in
+        let fits : headerLength + (h - 1 - y) * s + b ≤ length file = omega (arith, more-rows (h - 1 - y) h s (omega arith)) in
         let g : pictureOf b h d ≡ overlay front old =
         ap (pictureOf b h) p ∙ picture-raw b h some (overlay front old) (rows-part y) in
         q
         ∙ ap (rawOf b h)
-        (rw (f, take-add (y * b) b picture, read-row)
-        (part-next 0 old front rowIn (y * b) g refl (omega arith) (omega (arith, rows .0))))
+        (rw (f, take-add (y * b) b picture, read-row b h s some within file y low fits)
+        (part-next 0 old front (rowIn b h s file y) (y * b) g refl (omega arith) (omega (arith, rows .0))))

@@ -316,7 +316,15 @@ pub fn write_bitmap(b: usize, h: usize, s: usize, raw: &[u8], out: &mut [u8]) ->
 // ---- the reader
 
 // Makes row y of the picture that a slot holds the dots of the b bytes of `rows` from index `at` on.
-fn put_dots(b: usize, h: usize, palette: Palette, raw: &mut [u8], y: usize, rows: &[u8], at: usize)
+pub fn put_dots(
+    b: usize,
+    h: usize,
+    palette: Palette,
+    raw: &mut [u8],
+    y: usize,
+    rows: &[u8],
+    at: usize,
+)
     requires { ⌜ (length (now raw) ≡ h * b) × (y < h) × (b ≤ 33) × (h ≤ 176) × (at + b ≤ length (now rows)) ⌝ }
     ensures { λ _. ⌜ now (raw .exit)
         ≡ rawOf b h (overlayAt (y * b) (map (dotsOf palette) (take b (drop at (now (rows .entry)))))

@@ -17,10 +17,14 @@ use Rattle.panel.proofs.Dots.{dot-lt}
 use Rattle.panel.proofs.Panels.{size-of}
 use Rattle.settings.specs.Settings.{panelOf}
 use Rattle.settings.proofs.Accepted.{good-panel}
-use Rattle.picture.specs.Slots.{slotPicture, withPicture}
+use Rattle.picture.specs.Slots.{slotBytes, withBytes, slotPicture, withPicture}
 use Rattle.picture.specs.Regions.{payloadRow, regionCases, withRegion}
 use Rattle.picture.proofs.Slots.{rows-overdrawn}
 use Rattle.bitmap.proofs.RoundTrip.{length-read}
+use Rattle.fill.specs.Fills.{begunFill}
+use Rattle.fill.specs.Feeding.{feeding, finishing, cancelling}
+use Rattle.fill.specs.declared.Fill.{Fill}
+use Rattle.fill.specs.declared.Fed.{Fed}
 use Rattle.run.specs.Clock.{passedAt}
 use Rattle.run.specs.Due.{dueOf}
 use Rattle.run.specs.Runs.{begun, waited}
@@ -33,13 +37,13 @@ use Rattle.poll.specs.HandOut.{Outcome, outcome, handOut}
 use Rattle.poll.specs.Poll.{pollAt, pollCases, pollRun}
 use Rattle.poll.specs.declared.Answer.{Answer}
 use Rattle.poll.specs.declared.Answer.the-variants as answer
-use Rattle.board.specs.State.{fileOf, sizesOf, withPhase, storeCases}
-use Rattle.board.specs.Calls.{isRunning, reply, uploadOwn, uploadCases, regionDrawn, bitmapCases, bitmapDrawn, regionUpload, bitmapUpload, startOwn, startCases, starting, abandonOwn, abandonCases, abandoning, Polling, polling, inState, pollPhase, polled, writeCases, bitmapWritten, bitmapWrite}
-use Rattle.board.specs.History.{Call, uploadRegion, uploadBitmap, start, poll, abandon, writeBitmap, noPart, partOf, Given, number, answered, isAccepted, event, outOf, Called, ofReply, ofPoll, callOn}
+use Rattle.board.specs.State.{fileOf, sizesOf, withPhase, withFill, storeCases}
+use Rattle.board.specs.Calls.{isRunning, isFilling, reply, uploadOwn, uploadCases, regionDrawn, bitmapCases, bitmapDrawn, regionUpload, bitmapUpload, beginOwn, beginCases, fillBegin, fillOwn, fillCases, onSlot, fedReply, onFill, fillFeed, fillFinish, fillCancel, startOwn, startCases, starting, abandonOwn, abandonCases, abandoning, Polling, polling, inState, pollPhase, polled, writeCases, bitmapWritten, bitmapWrite}
+use Rattle.board.specs.History.{Call, uploadRegion, uploadBitmap, beginFill, feedFill, finishFill, cancelFill, start, poll, abandon, writeBitmap, noPart, partOf, Given, number, answered, isAccepted, event, outOf, Called, ofReply, ofPoll, callOn}
 use Rattle.board.specs.declared.State.{State}
 use Rattle.board.specs.declared.Reply.{Reply}
 use Rattle.board.proofs.States.{Tested, tested, valid-state}
-use Rattle.board.proofs.Tests.{Uploadable, uploadable, Startable, startable, running}
+use Rattle.board.proofs.Tests.{Uploadable, uploadable, Fillable, fillable, filling, Startable, startable, running}
 
 -- ---- the effects
 
@@ -48,7 +52,19 @@ abbrev pub leaving : (call : Call) (memory : List ℕ) → Given → (state′ :
 leaving call memory given state′ memory′ out′ =
     record { seen = event call memory given []; state = state′; memory = memory′; out = out′ }
 
+-- what each call of a fill does to the bytes of its slot
+pub data Fills (shape : Shape) (fill : Fill) : Call → (List ℕ → Fed × List ℕ) → Type 0 where
+  feeds : (chunk : List ℕ) → Fills shape fill (feedFill chunk) (feeding (shape .bytes) (shape .rows) (shape .stride) fill chunk)
+  finishes : Fills shape fill finishFill (finishing (shape .bytes) (shape .rows) (shape .stride) fill)
+  cancels : Fills shape fill cancelFill (λ raw. cancelling (shape .bytes) (shape .rows))
+
 module _ (state : State) (memory : List ℕ) where
+  -- what a call left that did this to the slot being filled
+  abbrev pub filledTo : (call : Call) (act : List ℕ → Fed × List ℕ) → Called
+  filledTo call act =
+      let d = onSlot (sizesOf state) memory (state .store .fill .slot) act in
+      ofReply call memory (fedReply state (d .0)) (d .1) []
+
   -- what a poll of its run left
   abbrev pub polledTo : (tick : Tick) (out : List ℕ) → Outcome → Called
   polledTo tick out o = ofPoll (poll tick out) memory (inState state o)
@@ -70,6 +86,12 @@ module _ (state : State) (memory : List ℕ) where
         → Uploadable (state .store) slot → length picture ≡ sizesOf state .rows * sizesOf state .bytes
         → Effect call
         (leaving call memory (number 0) state (withPicture (sizesOf state .bytes) (sizesOf state .rows) memory slot picture) (outOf call))
+    -- it begins to fill a slot
+    begins : (slot : ℕ) → Tested state (length memory) → Fillable (state .store) slot
+        → Effect (beginFill slot) (leaving (beginFill slot) memory (number 0) (withFill state (begunFill slot)) memory [])
+    -- it goes on with the slot being filled, or ends that: the fill and the slot change, and nothing else
+    fills : (call : Call) (act : List ℕ → Fed × List ℕ) → Fills (sizesOf state) (state .store .fill) call act
+        → Tested state (length memory) → isFilling (state .store .fill) ≡ true → Effect call (filledTo call act)
     -- it starts a run, or abandons it
     starts : (slot : ℕ) (tick : Tick) → Tested state (length memory) → Startable (state .store) slot
         → Effect (start slot tick) (leaving (start slot tick) memory (number 0) (withPhase state (Running (begun slot tick))) memory [])
@@ -129,6 +151,38 @@ module _ (state : State) (memory : List ℕ) where
       (λ n e. refuses call (number n) e)
       (λ free.
       drawn call slot _ refl (none-parts (uploadCases state (length memory) slot) own free .0) (length-read b h (sizesOf state .stride) file))
+
+  begin-effect : (slot : ℕ) → Effect state memory (beginFill slot) (callOn state memory (beginFill slot))
+  unfolding fillBegin
+  begin-effect slot =
+      by-cases (λ (r : Reply). Effect state memory (beginFill slot) (ofReply (beginFill slot) memory r memory []))
+      (beginCases state (length memory) slot) (λ n. reply n state) (reply 0 (withFill state (begunFill slot))) refl
+      (λ n e. refuses (beginFill slot) (number n) e)
+      (λ free.
+      let parts = none-parts (storeCases state (length memory)) (beginOwn (state .store) slot) free in
+      begins slot (tested state (length memory) (parts .0)) (fillable (state .store) slot (parts .1)))
+
+  fill-effect : (call : Call) (act : List ℕ → Fed × List ℕ) → Fills (sizesOf state) (state .store .fill) call act → outOf call ≡ []
+      → Effect state memory call (ofReply call memory (onFill state memory act .0) (onFill state memory act .1) [])
+  fill-effect call act kind none =
+      by-cases (λ (r : Reply × List ℕ). Effect state memory call (ofReply call memory (r .0) (r .1) []))
+      (fillCases state (length memory)) (λ n. (reply n state, memory)) _ refl
+      (λ n e. subst (λ (out : List ℕ). Effect state memory call (leaving call memory (number n) state memory out)) none (refuses call (number n) e))
+      (λ free.
+      let parts = none-parts (storeCases state (length memory)) (fillOwn (state .store)) free in
+      fills call act kind (tested state (length memory) (parts .0)) (filling (state .store) (parts .1)))
+
+  feed-effect : (chunk : List ℕ) → Effect state memory (feedFill chunk) (callOn state memory (feedFill chunk))
+  unfolding fillFeed
+  feed-effect chunk = fill-effect (feedFill chunk) (feeding b h (sizesOf state .stride) (state .store .fill) chunk) (feeds chunk) refl
+
+  finish-effect : Effect state memory finishFill (callOn state memory finishFill)
+  unfolding fillFinish
+  finish-effect = fill-effect finishFill (finishing b h (sizesOf state .stride) (state .store .fill)) finishes refl
+
+  cancel-effect : Effect state memory cancelFill (callOn state memory cancelFill)
+  unfolding fillCancel
+  cancel-effect = fill-effect cancelFill (λ raw. cancelling b h) cancels refl
 
   start-effect : (slot : ℕ) (tick : Tick) → Effect state memory (start slot tick) (callOn state memory (start slot tick))
   unfolding starting
@@ -203,6 +257,10 @@ module _ (state : State) (memory : List ℕ) where
   pub effect : (call : Call) → Effect state memory call (callOn state memory call)
   effect (uploadRegion slot x y width height payload) = region-effect slot x y width height payload
   effect (uploadBitmap slot file) = bitmap-effect slot file
+  effect (beginFill slot) = begin-effect slot
+  effect (feedFill chunk) = feed-effect chunk
+  effect finishFill = finish-effect
+  effect cancelFill = cancel-effect
   effect (start slot tick) = start-effect slot tick
   effect (poll tick out) = poll-effect tick out
   effect abandon = abandon-effect

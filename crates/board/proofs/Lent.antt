@@ -11,12 +11,13 @@ use lib.ListN.{length, take, drop}
 use Rattle.lists.specs.Lists.{overlay}
 use Rattle.lists.proofs.Parts.{part-length}
 use Rattle.panel.specs.declared.Shape.{Shape}
-use Rattle.picture.specs.Slots.{pictureOf, rawOf}
+use Rattle.picture.specs.Slots.{pictureOf, rawOf, slotBytes, withBytes}
 use Rattle.picture.specs.Facts.{SlotIn}
 use Rattle.picture.proofs.Slots.{lent-picture, lent-back}
 use Rattle.bitmap.specs.Bitmap.{readPicture, writtenFile}
 use Rattle.bitmap.proofs.RoundTrip.{length-read}
-use Rattle.board.specs.Calls.{bitmapDrawn, bitmapWritten}
+use Rattle.fill.specs.declared.Fed.{Fed}
+use Rattle.board.specs.Calls.{bitmapDrawn, bitmapWritten, onSlot}
 
 -- ---- sizes
 
@@ -66,3 +67,33 @@ slot-written shape memory slot out e =
     e
     ∙ ap (λ (picture : List ℕ). overlay (writtenFile (shape .bytes) (shape .rows) (shape .stride) picture) out)
     (lent-picture (shape .bytes) (shape .rows) memory slot)
+
+-- what is done to the lent bytes of a slot, and leaves as many, is done to the slot
+pub slot-acted : (shape : Shape) (memory : List ℕ) (slot : ℕ) → SlotIn (shape .bytes) (shape .rows) (length memory) slot
+    → (act : List ℕ → Fed × List ℕ)
+    → ((raw : List ℕ) → length raw ≡ shape .rows * shape .bytes → length (act raw .1) ≡ shape .rows * shape .bytes)
+    → {fed : Fed} {part : List ℕ}
+    → (fed, part)
+    ≡ act
+    (take (slot * (shape .rows * shape .bytes) + shape .rows * shape .bytes - slot * (shape .rows * shape .bytes))
+    (drop (slot * (shape .rows * shape .bytes)) memory))
+    → _≡_ {A = Fed × List ℕ} (
+      fed,
+      take (slot * (shape .rows * shape .bytes)) memory
+          ++ (part
+          ++ drop (slot * (shape .rows * shape .bytes) + shape .rows * shape .bytes - slot * (shape .rows * shape .bytes))
+          (drop (slot * (shape .rows * shape .bytes)) memory)),
+    )
+    (onSlot shape memory slot act)
+unfolding slotBytes withBytes
+slot-acted shape memory slot lies act keeps {fed} {part} e =
+    let size = shape .rows * shape .bytes in
+    let front : List ℕ = take (slot * size) memory in
+    let rest : List ℕ = drop (slot * size) memory in
+    let is : _≡_ {A = Fed × List ℕ} (fed, part) (act (take size rest)) = rw (add-sub-cancel-left (slot * size) size) at e in
+    let long : length part ≡ size =
+    ap (λ (r : Fed × List ℕ). length (r .1)) is ∙ keeps (take size rest) (part-length (slot * size) size memory (lies .fits)) in
+    let cut : _≡_ {A = Fed × List ℕ} (fed, front ++ (part ++ drop (slot * size + size - slot * size) rest))
+    (fed, front ++ (part ++ drop (length part) rest)) =
+    rw (add-sub-cancel-left (slot * size) size, long) in
+    cut ∙ ap (λ (r : Fed × List ℕ). (r .0, front ++ (r .1 ++ drop (length (r .1)) rest))) is

@@ -1,4 +1,4 @@
--- Every effect of a call is one move of crate balance: refusals, waits, writes and uploads push nothing, a line is the next draw, and done
+-- Every effect of a call is one move of crate balance: refusals, waits, writes, uploads and fills push nothing, a line is the next draw, and done
 -- leaves the run at rest.
 -- Assumes nothing.
 use mathlib.Core.Path.{_≡_, refl, sym, ap, _∙_, subst}
@@ -38,7 +38,8 @@ use Rattle.board.specs.declared.State.{State}
 use Rattle.board.proofs.States.{Tested, valid-state, run-of}
 use Rattle.board.proofs.Tests.{Uploadable, Startable}
 use Rattle.board.proofs.Effects as effects
-use Rattle.board.proofs.Effects.{Effect, At, polledTo}
+use Rattle.board.proofs.Effects.{Effect, At, filledTo, polledTo}
+use Rattle.board.proofs.Filled.{fills-apart, filled-low, filled-others}
 use Rattle.board.proofs.Views.{placeOf, place-next, Sees, rests, runs, stopped, Agree, Leads, AgreeIn, LeadsIn, OneMove, silent-none, stays, agree-other, no-move}
 use Rattle.board.proofs.Lines.{head-no-line, rest-no-line, silent-step, silent-out, drives-out, line-drives}
 
@@ -219,6 +220,17 @@ module _ (state : State) (memory : List ℕ) (seen : Seen) (view : View)
       apart call (withPicture b₁ h₁ memory slot picture) e
       (agree-other b₁ h₁ (state .store .phase) memory (withPicture b₁ h₁ memory slot picture) slot (may .takes .low) (may .not-runs)
       (others-kept b₁ h₁ (state .store .slots) memory (t .exact) slot (may .takes .high) picture long) agree) _
+  one-move (effects.begins slot t may) = record { file-kept = refl; leads = no-move (fileOf state) agree }
+  one-move (effects.fills call act kind t is) =
+      let memory′ = filledTo state memory call act .memory in
+      record {
+        file-kept = refl;
+        leads =
+            rw (fills-apart kind)
+            (no-move (fileOf state)
+            (agree-other b₁ h₁ (state .store .phase) memory memory′ (state .store .fill .slot) (filled-low (state .store .fill) is)
+            (valid-state state (t .valid) .fill-apart) (filled-others state memory t kind) agree));
+      }
   one-move (effects.starts slot tick t may) =
       record {
         file-kept = refl;

@@ -26,8 +26,12 @@ use Rattle.run.specs.declared.Phase.the-variants.{Abandoned, Running}
 use Rattle.poll.specs.HandOut.{outcome}
 use Rattle.poll.specs.declared.Answer.{Answer}
 use Rattle.poll.specs.declared.Answer.the-variants.{Refused}
-use Rattle.board.specs.State.{sizesOf, withPhase, storeBytes, storeCases, emptyState, openedState}
-use Rattle.board.specs.Calls.{reply, openCases, opening, uploadCases, regionDrawn, bitmapCases, bitmapDrawn, regionUpload, bitmapUpload, startCases, starting, abandonCases, abandoning, polling, inState, pollPhase, polled, writeCases, bitmapWritten, bitmapWrite}
+use Rattle.fill.specs.Fills.{begunFill}
+use Rattle.fill.specs.Feeding.{feeding, finishing, cancelling}
+use Rattle.fill.specs.declared.Fill.{Fill}
+use Rattle.fill.specs.declared.Fed.{Fed}
+use Rattle.board.specs.State.{sizesOf, withPhase, withFill, storeBytes, storeCases, emptyState, openedState}
+use Rattle.board.specs.Calls.{reply, openCases, opening, uploadCases, regionDrawn, bitmapCases, bitmapDrawn, regionUpload, bitmapUpload, beginCases, fillBegin, fillCases, onSlot, fedReply, onFill, fillFeed, fillFinish, fillCancel, startCases, starting, abandonCases, abandoning, polling, inState, pollPhase, polled, writeCases, bitmapWritten, bitmapWrite}
 use Rattle.board.specs.Facts.{bitmapPlaced, regionPlaced}
 use Rattle.board.specs.declared.State.{State}
 use Rattle.board.specs.declared.Reply.{Reply}
@@ -162,6 +166,78 @@ module _ (state : State) (memory : List ℕ) (slot : ℕ) {r : ℕ}
     region-uploaded z sizes e =
         placed region (regionDrawn (sizesOf state) memory slot x y width height payload) z
         (e ∙ ap (λ (s : Shape). regionPlaced s memory slot x y width height payload) sizes)
+
+-- ---- fills
+
+module _ (state : State) (m slot : ℕ) {r : ℕ} (is : r ≡ firstOf (beginCases state m slot) (λ n. n) 0) where
+  pub begin-refused : (r ≡ 0 → ⊥) → reply r state ≡ fillBegin state m slot
+  unfolding fillBegin
+  begin-refused =
+      some-number (beginCases state m slot) (λ number. reply number state) (reply 0 (withFill state (begunFill slot))) is
+
+  pub begin-accepted : {fill : Fill} {after : State} → fill ≡ begunFill slot → after ≡ withFill state fill → r ≡ 0
+      → reply 0 after ≡ fillBegin state m slot
+  unfolding fillBegin
+  begin-accepted e f z =
+      rw (f, e)
+      (sym
+      (taken (beginCases state m slot) (λ number. reply number state) (reply 0 (withFill state (begunFill slot)))
+      (none-of (beginCases state m slot) refl is z)))
+
+module _ (state : State) (memory : List ℕ) {r : ℕ} (is : r ≡ firstOf (fillCases state (length memory)) (λ n. n) 0) where
+  -- the reply to what is done to the slot being filled
+  abbrev fed-on : (act : List ℕ → Fed × List ℕ) → Reply × List ℕ
+  fed-on act =
+      let d = onSlot (sizesOf state) memory (state .store .fill .slot) act in
+      (fedReply state (d .0), d .1)
+
+  refused-fill : (act : List ℕ → Fed × List ℕ) → (r ≡ 0 → ⊥) → (reply r state, memory) ≡ onFill state memory act
+  refused-fill act = some-number (fillCases state (length memory)) (λ number. (reply number state, memory)) (fed-on act) is
+
+  done-fill : (act : Shape → List ℕ → Fed × List ℕ) → r ≡ 0 → {shape : Shape} → shape ≡ sizesOf state
+      → {fed : Fed} {after : List ℕ} {given : Reply} → given ≡ fedReply state fed
+      → (fed, after) ≡ onSlot shape memory (state .store .fill .slot) (act shape)
+      → (given, after) ≡ onFill state memory (act (sizesOf state))
+  done-fill act z sizes {fed} {after} {given} e f =
+      let g : _≡_ {A = Fed × List ℕ} (fed, after) (onSlot (sizesOf state) memory (state .store .fill .slot) (act (sizesOf state))) =
+      f ∙ ap (λ (s : Shape). onSlot s memory (state .store .fill .slot) (act s)) sizes in
+      ap (λ (q : Reply). (q, after)) e
+      ∙ ap (λ (d : Fed × List ℕ). (fedReply state (d .0), d .1)) g
+      ∙ sym
+      (taken (fillCases state (length memory)) (λ number. (reply number state, memory)) (fed-on (act (sizesOf state)))
+      (none-of (fillCases state (length memory)) refl is z))
+
+  pub feed-refused : (chunk : List ℕ) → (r ≡ 0 → ⊥) → (reply r state, memory) ≡ fillFeed state memory chunk
+  unfolding fillFeed
+  feed-refused chunk = refused-fill (feeding (sizesOf state .bytes) (sizesOf state .rows) (sizesOf state .stride) (state .store .fill) chunk)
+
+  pub finish-refused : (r ≡ 0 → ⊥) → (reply r state, memory) ≡ fillFinish state memory
+  unfolding fillFinish
+  finish-refused = refused-fill (finishing (sizesOf state .bytes) (sizesOf state .rows) (sizesOf state .stride) (state .store .fill))
+
+  pub cancel-refused : (r ≡ 0 → ⊥) → (reply r state, memory) ≡ fillCancel state memory
+  unfolding fillCancel
+  cancel-refused = refused-fill (λ raw. cancelling (sizesOf state .bytes) (sizesOf state .rows))
+
+  module _ (z : r ≡ 0) {shape : Shape} (sizes : shape ≡ sizesOf state) {fed : Fed} {after : List ℕ} {given : Reply}
+      (e : given ≡ fedReply state fed) where
+    pub fed-replied : (chunk : List ℕ)
+        → (fed, after)
+        ≡ onSlot shape memory (state .store .fill .slot) (feeding (shape .bytes) (shape .rows) (shape .stride) (state .store .fill) chunk)
+        → (given, after) ≡ fillFeed state memory chunk
+    unfolding fillFeed
+    fed-replied chunk = done-fill (λ s. feeding (s .bytes) (s .rows) (s .stride) (state .store .fill) chunk) z sizes e
+
+    pub finish-replied : (fed, after)
+        ≡ onSlot shape memory (state .store .fill .slot) (finishing (shape .bytes) (shape .rows) (shape .stride) (state .store .fill))
+        → (given, after) ≡ fillFinish state memory
+    unfolding fillFinish
+    finish-replied = done-fill (λ s. finishing (s .bytes) (s .rows) (s .stride) (state .store .fill)) z sizes e
+
+    pub cancel-replied : (fed, after) ≡ onSlot shape memory (state .store .fill .slot) (λ raw. cancelling (shape .bytes) (shape .rows))
+        → (given, after) ≡ fillCancel state memory
+    unfolding fillCancel
+    cancel-replied = done-fill (λ s raw. cancelling (s .bytes) (s .rows)) z sizes e
 
 -- ---- start and abandon
 

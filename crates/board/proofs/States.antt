@@ -2,15 +2,16 @@
 -- Only this file knows in which order the conditions stand.
 -- Assumes nothing.
 use mathlib.Core.Path.{_≡_, refl, sym, ap, _∙_}
-use mathlib.Core.Bool.{Bool, true, false, not, false≢true}
+use mathlib.Core.Bool.{Bool, true, false, not, and-true, false≢true}
 use mathlib.Core.List.{List}
 use Prim.Native.Nat.{ℕ, _≤_, _<_}
 use native.Mathlib.Omega.{arith}
-use borrow.Author.Tests.{leb-true, eqb-true, le-leb, lt-leb, eq-eqb, ne-eqb, not-false}
+use borrow.Author.Tests.{leb-true, eqb-true, le-leb, lt-leb, eq-eqb, ne-eqb, not-false, not-true}
 use lib.Dec.{eqb}
 use lib.ListN.{length, getD}
 use lib.Seq.{length-take-le}
-use Rattle.lists.proofs.Rules.{refused, passed, broken, holds, decides, none, keep, all-kept, None, past}
+use Rattle.lists.specs.Rules.{every}
+use Rattle.lists.proofs.Rules.{refused, passed, broken, holds, none, keep, all-kept, None, past}
 use Rattle.lists.proofs.Rules as cases
 use Rattle.settings.specs.Settings.{settingsGood}
 use Rattle.settings.specs.Plans.{PlanOf, PlannedFor}
@@ -18,13 +19,16 @@ use Rattle.settings.specs.declared.Plan.{Plan}
 use Rattle.settings.specs.declared.Planned.{Planned}
 use Rattle.panel.specs.declared.Shape.{Shape}
 use Rattle.picture.proofs.Slots.{slot-in}
+use Rattle.fill.specs.Conditions.{fillValid}
+use Rattle.fill.specs.declared.Fill.{Fill}
 use Rattle.run.specs.Conditions.{runValid}
 use Rattle.run.specs.declared.Run.{Run}
 use Rattle.run.specs.declared.Phase.{Phase}
 use Rattle.run.specs.declared.Phase.the-variants.{Running}
-use Rattle.board.specs.State.{fileOf, sizesOf, withPhase, phaseValid, stateRules, stateValid, storeBytes, storeCases}
+use Rattle.board.specs.State.{fileOf, sizesOf, withPhase, withFill, phaseValid, isRunsSlot, fillRules, stateRules, stateValid, storeBytes, storeCases}
 use Rattle.board.specs.Facts.{StatePlanned, Found, SlotOf}
 use Rattle.board.specs.declared.State.{State}
+use Rattle.board.specs.declared.Store.{Store}
 use Rattle.board.specs.declared.checks.Checked.{Checked}
 
 -- ---- the conditions
@@ -35,6 +39,9 @@ pub record ValidState (state : State) : Type 0 where
   pub some : 1 ≤ state .store .slots
   pub few : state .store .slots ≤ 7
   pub phase-good : phaseValid (fileOf state) (state .store .slots) (state .store .phase) ≡ true
+  pub fill-high : state .store .fill .slot ≤ state .store .slots
+  pub fill-apart : isRunsSlot (state .store .phase) (state .store .fill .slot) ≡ false
+  pub fill-good : fillValid (sizesOf state .bytes) (sizesOf state .rows) (sizesOf state .stride) (state .store .fill) ≡ true
 
 pub valid-state : (state : State) → stateValid state ≡ true → ValidState state
 unfolding stateValid
@@ -46,6 +53,9 @@ valid-state state e =
       some = leb-true _ _ (rule 2);
       few = leb-true _ _ (rule 3);
       phase-good = rule 4;
+      fill-high = leb-true _ _ (rule 5);
+      fill-apart = not-true _ (rule 6);
+      fill-good = rule 7;
     }
 
 pub state-valid : (state : State) → ValidState state → stateValid state ≡ true
@@ -53,14 +63,47 @@ unfolding stateValid
 state-valid state v =
     all-kept
     (keep (le-leb _ _ (v .within))
-    (keep (v .good) (keep (le-leb _ _ (v .some)) (keep (le-leb _ _ (v .few)) (keep (v .phase-good) none)))))
+    (keep (v .good)
+    (keep (le-leb _ _ (v .some))
+    (keep (le-leb _ _ (v .few))
+    (keep (v .phase-good) (keep (le-leb _ _ (v .fill-high)) (keep (ap not (v .fill-apart)) (keep (v .fill-good) none))))))))
 
--- another valid phase keeps a state valid
+-- another valid phase, whose run has not the slot being filled, keeps a state valid
 pub phase-kept : (state : State) (phase : Phase) → stateValid state ≡ true
-    → phaseValid (fileOf state) (state .store .slots) phase ≡ true → stateValid (withPhase state phase) ≡ true
-phase-kept state phase e p =
+    → phaseValid (fileOf state) (state .store .slots) phase ≡ true → isRunsSlot phase (state .store .fill .slot) ≡ false
+    → stateValid (withPhase state phase) ≡ true
+phase-kept state phase e p apart =
     let v = valid-state state e in
-    state-valid (withPhase state phase) (record { within = v .within; good = v .good; some = v .some; few = v .few; phase-good = p })
+    state-valid (withPhase state phase)
+    (record {
+      within = v .within;
+      good = v .good;
+      some = v .some;
+      few = v .few;
+      phase-good = p;
+      fill-high = v .fill-high;
+      fill-apart = apart;
+      fill-good = v .fill-good;
+    })
+
+-- and so does another valid fill, of a slot of the store that is not the run's
+pub fill-kept : (state : State) (fill : Fill) → stateValid state ≡ true → fill .slot ≤ state .store .slots
+    → isRunsSlot (state .store .phase) (fill .slot) ≡ false
+    → fillValid (sizesOf state .bytes) (sizesOf state .rows) (sizesOf state .stride) fill ≡ true
+    → stateValid (withFill state fill) ≡ true
+fill-kept state fill e high apart good =
+    let v = valid-state state e in
+    state-valid (withFill state fill)
+    (record {
+      within = v .within;
+      good = v .good;
+      some = v .some;
+      few = v .few;
+      phase-good = v .phase-good;
+      fill-high = high;
+      fill-apart = apart;
+      fill-good = good;
+    })
 
 -- a valid state with a run has a valid run
 pub run-of : (state : State) (run : Run) → stateValid state ≡ true → state .store .phase ≡ Running run
@@ -87,17 +130,34 @@ module _ (state : State) {r : Planned} (unplanned : r .ok ≡ false) where
   pub many-slots : 7 < state .store .slots → StatePlanned state r
   many-slots h = breaks 3 (lt-leb _ _ h)
 
-pub phase-decides : (state : State) → state .settings .len ≤ length (state .settings .file) → 1 ≤ state .store .slots
+  pub not-phase : phaseValid (fileOf state) (state .store .slots) (state .store .phase) ≡ false → StatePlanned state r
+  not-phase e = breaks 4 e
+
+pub fill-decides : (state : State) → state .settings .len ≤ length (state .settings .file) → 1 ≤ state .store .slots
     → state .store .slots ≤ 7 → {ok : Bool} {plan : Plan} → PlanOf (fileOf state) plan
-    → ok ≡ phaseValid (fileOf state) (state .store .slots) (state .store .phase)
-    → StatePlanned state (record { ok = ok; plan = plan })
+    → phaseValid (fileOf state) (state .store .slots) (state .store .phase) ≡ true
+    → ok ≡ every (fillRules (plan .shape) (state .store)) → StatePlanned state (record { ok = ok; plan = plan })
 unfolding stateValid
-phase-decides state e g h of is =
+fill-decides state e g h of phase is =
     record {
       good = is
-          ∙ sym (decides 4 (stateRules state) (keep (le-leb _ _ e) (keep (of .good) (keep (le-leb _ _ g) (keep (le-leb _ _ h) (keep refl none))))));
+          ∙ ap (λ (shape : Shape). every (fillRules shape (state .store))) (of .shape-is)
+          ∙ sym (rw (le-leb _ _ e, of .good, le-leb _ _ g, le-leb _ _ h, phase));
       plan = λ _. of;
     }
+
+-- how `fill_valid` finds them
+module _ (shape : Shape) (store : Store) where
+  pub fill-absent : store .slots < store .fill .slot → false ≡ every (fillRules shape store)
+  fill-absent h = rw (lt-leb _ _ h)
+
+  module _ (high : store .fill .slot ≤ store .slots) where
+    pub fill-runs : {t : Bool} → t ≡ isRunsSlot (store .phase) (store .fill .slot) → t ≡ true → false ≡ every (fillRules shape store)
+    fill-runs is e = rw (le-leb _ _ high, ← is, e)
+
+    pub fill-last : {t : Bool} → t ≡ isRunsSlot (store .phase) (store .fill .slot) → t ≡ false → {r : Bool}
+        → r ≡ fillValid (shape .bytes) (shape .rows) (shape .stride) (store .fill) → r ≡ every (fillRules shape store)
+    fill-last is e {r} f = rw (le-leb _ _ high, ← is, e, ← f) (sym (and-true r))
 
 -- ---- 13 and 1
 

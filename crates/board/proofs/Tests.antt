@@ -1,14 +1,14 @@
 -- What each call has tested where it refuses nothing, by name: only this file knows in which order a call's own cases stand.
 -- Assumes nothing.
 use mathlib.Core.Path.{_≡_, refl, sym, ap, _∙_}
-use mathlib.Core.Bool.{true, false, not}
-use mathlib.Core.List.{List, _++_}
+use mathlib.Core.Bool.{Bool, true, false, not}
+use mathlib.Core.List.{List, [], _∷_, _++_}
 use Prim.Native.Nat.{ℕ, _≤_, _<_}
 use native.Mathlib.Omega.{arith}
 use borrow.Author.Tests.{leb-true, ltb-false, le-leb, le-ltb, not-false}
 use lib.Dec.{leb}
 use lib.ListN.{length}
-use Rattle.lists.specs.Rules.{Case, firstOf}
+use Rattle.lists.specs.Rules.{Case, case, firstOf}
 use Rattle.lists.proofs.Rules.{numbered, and-left, and-right, some-append, None, none, past, none-of, none-parts}
 use Rattle.panel.specs.declared.Shape.{Shape}
 use Rattle.picture.proofs.Slots.{slot-in}
@@ -18,8 +18,8 @@ use Rattle.run.specs.Conditions.{runValid}
 use Rattle.run.specs.declared.Run.{Run}
 use Rattle.run.proofs.Valid.{valid}
 use Rattle.poll.specs.Facts.{Room}
-use Rattle.board.specs.State.{fileOf, sizesOf, storeCases}
-use Rattle.board.specs.Calls.{takesPictures, isRunning, isAbandoned, isRunsSlot, uploadOwn, uploadCases, startOwn, abandonOwn, writeOwn, writeCases}
+use Rattle.board.specs.State.{fileOf, sizesOf, isRunsSlot, storeCases}
+use Rattle.board.specs.Calls.{takesPictures, isRunning, isAbandoned, isFilled, isFilling, uploadOwn, uploadCases, beginOwn, fillOwn, fillCases, startOwn, abandonOwn, writeOwn, writeCases}
 use Rattle.board.specs.Facts.{numberAfter, Found, SlotOf}
 use Rattle.board.specs.declared.State.{State}
 use Rattle.board.specs.declared.Store.{Store}
@@ -45,23 +45,45 @@ takes store slot e =
 pub record Uploadable (store : Store) (slot : ℕ) : Type 0 where
   pub takes : Takes store slot
   pub not-runs : isRunsSlot (store .phase) slot ≡ false
+  pub not-filled : isFilled (store .fill) slot ≡ false
 
 pub uploadable : (store : Store) (slot : ℕ) → None (uploadOwn store slot) → Uploadable store slot
-uploadable store slot (past e (past f rest)) = record { takes = takes store slot e; not-runs = f }
+uploadable store slot (past e (past f (past g rest))) = record { takes = takes store slot e; not-runs = f; not-filled = g }
 
 pub upload-free : (store : Store) (slot : ℕ) → Uploadable store slot → None (uploadOwn store slot)
 upload-free store slot may =
     let both : takesPictures (store .slots) slot ≡ true =
     rw (le-leb 1 slot (may .takes .low), le-leb slot (store .slots) (may .takes .high)) in
-    past (ap not both) (past (may .not-runs) none)
+    past (ap not both) (past (may .not-runs) (past (may .not-filled) none))
+
+-- a slot that may be filled, where none is being filled
+pub record Fillable (store : Store) (slot : ℕ) : Type 0 where
+  pub upload : Uploadable store slot
+  pub none-filled : isFilling (store .fill) ≡ false
+
+pub fillable : (store : Store) (slot : ℕ) → None (beginOwn store slot) → Fillable store slot
+fillable store slot free =
+    let parts = none-parts (uploadOwn store slot) _ free in
+    record { upload = uploadable store slot (parts .0); none-filled = last (parts .1) }
+  where
+    last : {t : Bool} {n : ℕ} → None (case t n ∷ []) → t ≡ false
+    last (past e rest) = e
+
+pub filling : (store : Store) → None (fillOwn store) → isFilling (store .fill) ≡ true
+filling store (past e rest) = not-false (isFilling (store .fill)) e
+
+pub fill-free : (store : Store) → isFilling (store .fill) ≡ true → None (fillOwn store)
+fill-free store e = past (ap not e) none
 
 pub record Startable (store : Store) (slot : ℕ) : Type 0 where
   pub idle : isRunning (store .phase) ≡ false
   pub whole : isAbandoned (store .phase) ≡ false
   pub takes : Takes store slot
+  pub not-filled : isFilled (store .fill) slot ≡ false
 
 pub startable : (store : Store) (slot : ℕ) → None (startOwn store slot) → Startable store slot
-startable store slot (past e (past f (past g rest))) = record { idle = e; whole = f; takes = takes store slot g }
+startable store slot (past e (past f (past g (past k rest)))) =
+    record { idle = e; whole = f; takes = takes store slot g; not-filled = k }
 
 pub running : (store : Store) → None (abandonOwn store) → isRunning (store .phase) ≡ true
 running store (past e rest) = not-false (isRunning (store .phase)) e
@@ -126,6 +148,14 @@ module _ (state : State) (memoryLength slot : ℕ) {checked : Checked} where
         slot-of state memoryLength slot (tested state memoryLength (free .0)) (may .high) (found .plan z),
         rw (found .plan z .shape-is) (may .room),
       )
+
+-- the slot being filled
+pub fill-slot : (state : State) (memoryLength : ℕ) {checked : Checked} → Found state (fillCases state memoryLength) checked
+    → checked .number ≡ 0 → SlotOf (checked .plan .shape) memoryLength (state .store .fill .slot)
+fill-slot state memoryLength found z =
+    let free = none-parts (storeCases state memoryLength) (fillOwn (state .store)) (none-of (fillCases state memoryLength) refl (found .number-is) z) in
+    let t = tested state memoryLength (free .0) in
+    slot-of state memoryLength (state .store .fill .slot) t (valid-state state (t .valid) .fill-high) (found .plan z)
 
 -- the slot of a valid run
 pub room : (state : State) (run : Run) (memory : List ℕ) → runValid (fileOf state) (state .store .slots) run ≡ true

@@ -29,6 +29,18 @@ use Rattle.board.proofs.State.upload_region.Reads as region-reads
 use Rattle.board.proofs.State.upload_bitmap as bitmap-fn
 use Rattle.board.proofs.State.upload_bitmap.Kinds as bitmap-kinds
 use Rattle.board.proofs.State.upload_bitmap.Reads as bitmap-reads
+use Rattle.board.proofs.State.begin_fill as begin-fn
+use Rattle.board.proofs.State.begin_fill.Kinds as begin-kinds
+use Rattle.board.proofs.State.begin_fill.Reads as begin-reads
+use Rattle.board.proofs.State.feed_fill as feed-fn
+use Rattle.board.proofs.State.feed_fill.Kinds as feed-kinds
+use Rattle.board.proofs.State.feed_fill.Reads as feed-reads
+use Rattle.board.proofs.State.finish_fill as finish-fn
+use Rattle.board.proofs.State.finish_fill.Kinds as finish-kinds
+use Rattle.board.proofs.State.finish_fill.Reads as finish-reads
+use Rattle.board.proofs.State.cancel_fill as cancel-fn
+use Rattle.board.proofs.State.cancel_fill.Kinds as cancel-kinds
+use Rattle.board.proofs.State.cancel_fill.Reads as cancel-reads
 use Rattle.board.proofs.State.write_bitmap as write-fn
 use Rattle.board.proofs.State.write_bitmap.Kinds as write-kinds
 use Rattle.board.proofs.State.write_bitmap.Reads as write-reads
@@ -59,6 +71,26 @@ UploadBitmap =
     made.Call 2 (World.ArgsD bitmap-fn.signature) (World.ResD bitmap-fn.signature)
     (Clauses.AtExit (FnKinds.endedOf 2 bitmap-kinds.ps bitmap-kinds.r)) bitmap-reads.Learnt
 
+abbrev pub BeginFill : Type 0
+BeginFill =
+    made.Call 1 (World.ArgsD begin-fn.signature) (World.ResD begin-fn.signature)
+    (Clauses.AtExit (FnKinds.endedOf 1 begin-kinds.ps begin-kinds.r)) begin-reads.Learnt
+
+abbrev pub FeedFill : Type 0
+FeedFill =
+    made.Call 2 (World.ArgsD feed-fn.signature) (World.ResD feed-fn.signature)
+    (Clauses.AtExit (FnKinds.endedOf 2 feed-kinds.ps feed-kinds.r)) feed-reads.Learnt
+
+abbrev pub FinishFill : Type 0
+FinishFill =
+    made.Call 1 (World.ArgsD finish-fn.signature) (World.ResD finish-fn.signature)
+    (Clauses.AtExit (FnKinds.endedOf 1 finish-kinds.ps finish-kinds.r)) finish-reads.Learnt
+
+abbrev pub CancelFill : Type 0
+CancelFill =
+    made.Call 1 (World.ArgsD cancel-fn.signature) (World.ResD cancel-fn.signature)
+    (Clauses.AtExit (FnKinds.endedOf 1 cancel-kinds.ps cancel-kinds.r)) cancel-reads.Learnt
+
 abbrev pub Start : Type 0
 Start =
     made.Call 1 (World.ArgsD start-fn.signature) (World.ResD start-fn.signature)
@@ -81,12 +113,15 @@ WriteBitmap =
 
 -- ---- the parts of each call: the places of its arguments are named here and nowhere else
 
--- the slot and the tick reading of a start, and the slot and the file of a bitmap upload and of the writer
+-- the slot and the tick reading of a start, the slot of a fill's begin, and the slot and the file of a bitmap upload and of the writer
 abbrev pub startedSlot : Start → ℕ
 startedSlot c = c .args .1 .1 .0
 
 abbrev pub startedTick : Start → Tick
 startedTick c = c .args .1 .1 .1 .0
+
+abbrev pub begunSlot : BeginFill → ℕ
+begunSlot c = c .args .1 .1 .0
 
 abbrev pub uploadedSlot : UploadBitmap → ℕ
 uploadedSlot c = c .args .1 .1 .0
@@ -112,6 +147,18 @@ regionParts c =
 abbrev pub bitmapParts : UploadBitmap → Parts
 bitmapParts c =
     replied (c .args .0) (now (c .args .1 .0)) (H.uploadBitmap (uploadedSlot c) (uploadedFile c)) (c .result) (now (c .exit .1 .0)) []
+
+abbrev pub beginParts : BeginFill → Parts
+beginParts c = replied (c .args .0) (now (c .args .1 .0)) (H.beginFill (begunSlot c)) (c .result) (now (c .args .1 .0)) []
+
+abbrev pub feedParts : FeedFill → Parts
+feedParts c = replied (c .args .0) (now (c .args .1 .0)) (H.feedFill (now (c .args .1 .1 .0))) (c .result) (now (c .exit .1 .0)) []
+
+abbrev pub finishParts : FinishFill → Parts
+finishParts c = replied (c .args .0) (now (c .args .1 .0)) H.finishFill (c .result) (now (c .exit .1 .0)) []
+
+abbrev pub cancelParts : CancelFill → Parts
+cancelParts c = replied (c .args .0) (now (c .args .1 .0)) H.cancelFill (c .result) (now (c .exit .1 .0)) []
 
 abbrev pub startParts : Start → Parts
 startParts c =
@@ -155,6 +202,10 @@ pub record AskNothing : Type 0 where
   pub opening : made.AsksNothing 2 (World.ArgsD open-fn.signature) open-reads.Asked
   pub region-upload : made.AsksNothing 2 (World.ArgsD region-fn.signature) region-reads.Asked
   pub bitmap-upload : made.AsksNothing 2 (World.ArgsD bitmap-fn.signature) bitmap-reads.Asked
+  pub begin-fill : made.AsksNothing 1 (World.ArgsD begin-fn.signature) begin-reads.Asked
+  pub feed-fill : made.AsksNothing 2 (World.ArgsD feed-fn.signature) feed-reads.Asked
+  pub finish-fill : made.AsksNothing 1 (World.ArgsD finish-fn.signature) finish-reads.Asked
+  pub cancel-fill : made.AsksNothing 1 (World.ArgsD cancel-fn.signature) cancel-reads.Asked
   pub starting : made.AsksNothing 1 (World.ArgsD start-fn.signature) start-reads.Asked
   pub abandoning : made.AsksNothing 1 (World.ArgsD abandon-fn.signature) abandon-reads.Asked
   pub polling : made.AsksNothing 2 (World.ArgsD poll-fn.signature) poll-reads.Asked
@@ -166,6 +217,10 @@ asks-nothing =
       opening = λ l args. tt;
       region-upload = λ l args. tt;
       bitmap-upload = λ l args. tt;
+      begin-fill = λ l args. tt;
+      feed-fill = λ l args. tt;
+      finish-fill = λ l args. tt;
+      cancel-fill = λ l args. tt;
       starting = λ l args. tt;
       abandoning = λ l args. tt;
       polling = λ l args. tt;
@@ -177,6 +232,10 @@ asks-nothing =
 pub data Step : Parts → Type 0 where
   uploadRegion : (c : UploadRegion) → Step (regionParts c)
   uploadBitmap : (c : UploadBitmap) → Step (bitmapParts c)
+  beginFill : (c : BeginFill) → Step (beginParts c)
+  feedFill : (c : FeedFill) → Step (feedParts c)
+  finishFill : (c : FinishFill) → Step (finishParts c)
+  cancelFill : (c : CancelFill) → Step (cancelParts c)
   start : (c : Start) → Step (startParts c)
   abandon : (c : Abandon) → Step (abandonParts c)
   poll : (c : Poll) → Step (pollParts c)
@@ -186,6 +245,10 @@ pub data Step : Parts → Type 0 where
 pub kept : {p : Parts} → Step p → p .left ≡ callOn (p .state) (p .memory) (p .call)
 kept {p} (uploadRegion c) = ap (λ (z : Reply × List ℕ). ofReply (p .call) (p .memory) (z .0) (z .1) []) (c .promised)
 kept {p} (uploadBitmap c) = ap (λ (z : Reply × List ℕ). ofReply (p .call) (p .memory) (z .0) (z .1) []) (c .promised)
+kept {p} (beginFill c) = ap (λ (r : Reply). ofReply (p .call) (p .memory) r (p .memory) []) (c .promised)
+kept {p} (feedFill c) = ap (λ (z : Reply × List ℕ). ofReply (p .call) (p .memory) (z .0) (z .1) []) (c .promised)
+kept {p} (finishFill c) = ap (λ (z : Reply × List ℕ). ofReply (p .call) (p .memory) (z .0) (z .1) []) (c .promised)
+kept {p} (cancelFill c) = ap (λ (z : Reply × List ℕ). ofReply (p .call) (p .memory) (z .0) (z .1) []) (c .promised)
 kept {p} (start c) = ap (λ (r : Reply). ofReply (p .call) (p .memory) r (p .memory) []) (c .promised)
 kept {p} (abandon c) = ap (λ (r : Reply). ofReply (p .call) (p .memory) r (p .memory) []) (c .promised)
 kept {p} (poll c) = ap (ofPoll (p .call) (p .memory)) (c .promised)

@@ -1,6 +1,6 @@
--- Document 01, "Store and bitmaps", "The run and its time" and "Numbers given back": what each call does, on any input. A refusal is
--- its number and the state as given; every lent byte stays. The cases of a call are its refusals in order: the store's 13 and 1, then
--- its own.
+-- Document 01, "Store and bitmaps", "The run and its time" and "Numbers given back", and request 2026-02, "Bitmaps over a slow cable":
+-- what each call does, on any input. A refusal is its number and the state as given, and every lent byte stays; but 4 of a fill ends the
+-- fill. The cases of a call are its refusals in order: the store's 13 and 1, then its own.
 -- Assumes nothing.
 use Prim.Native.Nat.{ℕ}
 use mathlib.Core.Bool.{Bool, true, false, not, _&&_}
@@ -11,10 +11,14 @@ use Rattle.lists.specs.Lists.{overlay}
 use Rattle.lists.specs.Rules.{Case, case, firstOf}
 use Rattle.panel.specs.declared.Shape.{Shape}
 use Rattle.settings.specs.Settings.{settingsGood, shapeIn}
-use Rattle.picture.specs.Slots.{slotPicture, withPicture}
+use Rattle.picture.specs.Slots.{slotBytes, withBytes, slotPicture, withPicture}
 use Rattle.picture.specs.Regions.{regionCases, withRegion}
 use Rattle.bitmap.specs.Header.{fileLength}
 use Rattle.bitmap.specs.Bitmap.{bitmapGood, readPicture, writtenFile}
+use Rattle.fill.specs.Fills.{begunFill}
+use Rattle.fill.specs.Feeding.{feeding, finishing, cancelling}
+use Rattle.fill.specs.declared.Fill.{Fill}
+use Rattle.fill.specs.declared.Fed.{Fed}
 use Rattle.run.specs.Runs.{begun}
 use Rattle.run.specs.declared.Tick.{Tick}
 use Rattle.poll.specs.Answers.{answerNumber, answerMs, putOut}
@@ -24,7 +28,7 @@ use Rattle.poll.specs.declared.Answer.{Answer}
 use Rattle.poll.specs.declared.Answer.the-variants as answer
 use Rattle.run.specs.declared.Phase.{Phase}
 use Rattle.run.specs.declared.Phase.the-variants.{Idle, Abandoned, Running}
-use Rattle.board.specs.State.{fileOf, sizesOf, withPhase, storeBytes, storeCases, emptyState, openedState}
+use Rattle.board.specs.State.{fileOf, sizesOf, withPhase, withFill, isRunsSlot, storeBytes, storeCases, emptyState, openedState}
 use Rattle.board.specs.declared.State.{State}
 use Rattle.board.specs.declared.Store.{Store}
 use Rattle.board.specs.declared.Reply.{Reply}
@@ -46,11 +50,12 @@ isAbandoned Idle = false
 isAbandoned Abandoned = true
 isAbandoned (Running run) = false
 
--- a slot is that of the run under way
-abbrev pub isRunsSlot : Phase → (slot : ℕ) → Bool
-isRunsSlot Idle slot = false
-isRunsSlot Abandoned slot = false
-isRunsSlot (Running run) slot = eqb (run .slot) slot
+-- a slot is the one being filled; and there is one: with none begun the fill's slot is 0
+abbrev pub isFilled : Fill → (slot : ℕ) → Bool
+isFilled fill slot = eqb (fill .slot) slot
+
+abbrev pub isFilling : Fill → Bool
+isFilling fill = not (eqb (fill .slot) 0)
 
 -- ---- opening: 2, 1; else all slots white
 
@@ -66,10 +71,14 @@ opening file n memory =
     (λ number. (reply number emptyState, memory))
     (reply 0 (openedState file n), replicate (length memory) 0xFF)
 
--- ---- uploads: 13, 1, 3, 7, then 5, 6, or 4
+-- ---- uploads: 13, 1, 3, 7, 15, then 5, 6, or 4
 
 abbrev pub uploadOwn : (store : Store) (slot : ℕ) → List Case
-uploadOwn store slot = case (not (takesPictures (store .slots) slot)) 3 ∷ case (isRunsSlot (store .phase) slot) 7 ∷ []
+uploadOwn store slot =
+    case (not (takesPictures (store .slots) slot)) 3
+    ∷ case (isRunsSlot (store .phase) slot) 7
+    ∷ case (isFilled (store .fill) slot) 15
+    ∷ []
 
 abbrev pub uploadCases : (state : State) (memoryLength slot : ℕ) → List Case
 uploadCases state memoryLength slot = storeCases state memoryLength ++ uploadOwn (state .store) slot
@@ -99,13 +108,61 @@ bitmapUpload state memory slot file =
     (λ number. (reply number state, memory))
     (reply 0 state, bitmapDrawn (sizesOf state) memory slot file)
 
--- ---- start: 13, 1, 8, 12, 3
+-- ---- fills: begin 13, 1, 3, 7, 15, 16; feed, finish and cancel 13, 1, 17, and the first two then 4
+
+abbrev pub beginOwn : (store : Store) (slot : ℕ) → List Case
+beginOwn store slot = uploadOwn store slot ++ (case (isFilling (store .fill)) 16 ∷ [])
+
+abbrev pub beginCases : (state : State) (memoryLength slot : ℕ) → List Case
+beginCases state memoryLength slot = storeCases state memoryLength ++ beginOwn (state .store) slot
+
+-- no byte of the memory changes
+unfoldable pub fillBegin : (state : State) (memoryLength slot : ℕ) → Reply
+fillBegin state memoryLength slot =
+    firstOf (beginCases state memoryLength slot) (λ number. reply number state) (reply 0 (withFill state (begunFill slot)))
+
+abbrev pub fillOwn : (store : Store) → List Case
+fillOwn store = case (not (isFilling (store .fill))) 17 ∷ []
+
+abbrev pub fillCases : (state : State) (memoryLength : ℕ) → List Case
+fillCases state memoryLength = storeCases state memoryLength ++ fillOwn (state .store)
+
+-- what is done to the bytes of a slot: what it gives back, and the memory with the bytes that it leaves in the slot
+abbrev pub onSlot : (shape : Shape) (memory : List ℕ) (slot : ℕ) (act : List ℕ → Fed × List ℕ) → Fed × List ℕ
+onSlot shape memory slot act =
+    let r = act (slotBytes (shape .bytes) (shape .rows) memory slot) in
+    (r .0, withBytes (shape .bytes) (shape .rows) memory slot (r .1))
+
+-- the reply to it: its number, and the state with the fill that it leaves
+abbrev pub fedReply : State → Fed → Reply
+fedReply state fed = reply (fed .number) (withFill state (fed .fill))
+
+-- something done to the slot being filled, where there is one
+abbrev pub onFill : (state : State) (memory : List ℕ) (act : List ℕ → Fed × List ℕ) → Reply × List ℕ
+onFill state memory act =
+    firstOf (fillCases state (length memory))
+    (λ number. (reply number state, memory))
+    (let r = onSlot (sizesOf state) memory (state .store .fill .slot) act in (fedReply state (r .0), r .1))
+
+unfoldable pub fillFeed : (state : State) (memory chunk : List ℕ) → Reply × List ℕ
+fillFeed state memory chunk =
+    onFill state memory (feeding (sizesOf state .bytes) (sizesOf state .rows) (sizesOf state .stride) (state .store .fill) chunk)
+
+unfoldable pub fillFinish : (state : State) (memory : List ℕ) → Reply × List ℕ
+fillFinish state memory =
+    onFill state memory (finishing (sizesOf state .bytes) (sizesOf state .rows) (sizesOf state .stride) (state .store .fill))
+
+unfoldable pub fillCancel : (state : State) (memory : List ℕ) → Reply × List ℕ
+fillCancel state memory = onFill state memory (λ raw. cancelling (sizesOf state .bytes) (sizesOf state .rows))
+
+-- ---- start: 13, 1, 8, 12, 3, 15
 
 abbrev pub startOwn : (store : Store) (slot : ℕ) → List Case
 startOwn store slot =
     case (isRunning (store .phase)) 8
     ∷ case (isAbandoned (store .phase)) 12
     ∷ case (not (takesPictures (store .slots) slot)) 3
+    ∷ case (isFilled (store .fill) slot) 15
     ∷ []
 
 abbrev pub startCases : (state : State) (memoryLength slot : ℕ) → List Case

@@ -10,7 +10,7 @@ use Rattle.run.specs.declared.Tick.{Tick}
 use Rattle.poll.specs.Answers.{answerNumber}
 use Rattle.poll.specs.declared.Answer.{Answer}
 use Rattle.poll.specs.declared.Answer.the-variants.{Refused, Write, Line, Wait, Done}
-use Rattle.board.specs.Calls.{regionUpload, bitmapUpload, starting, abandoning, Polling, polled, bitmapWrite}
+use Rattle.board.specs.Calls.{regionUpload, bitmapUpload, fillBegin, fillFeed, fillFinish, fillCancel, starting, abandoning, Polling, polled, bitmapWrite}
 use Rattle.board.specs.declared.State.{State}
 use Rattle.board.specs.declared.Reply.{Reply}
 
@@ -18,6 +18,10 @@ use Rattle.board.specs.declared.Reply.{Reply}
 pub data Call : Type 0 where
   uploadRegion : (slot x y width height : ℕ) (payload : List ℕ) → Call
   uploadBitmap : (slot : ℕ) (file : List ℕ) → Call
+  beginFill : (slot : ℕ) → Call
+  feedFill : (chunk : List ℕ) → Call
+  finishFill : Call
+  cancelFill : Call
   start : (slot : ℕ) (tick : Tick) → Call
   poll : (tick : Tick) (out : List ℕ) → Call
   abandon : Call
@@ -33,6 +37,10 @@ pub data Part : Type 0 where
 abbrev pub partOf : Call → Part
 partOf (uploadRegion slot x y width height payload) = noPart
 partOf (uploadBitmap slot file) = noPart
+partOf (beginFill slot) = noPart
+partOf (feedFill chunk) = noPart
+partOf finishFill = noPart
+partOf cancelFill = noPart
 partOf (start slot tick) = starts slot tick
 partOf (poll tick out) = polls tick
 partOf abandon = abandons
@@ -70,6 +78,10 @@ pub data Event : Type 0 where
 abbrev pub outOf : Call → List ℕ
 outOf (uploadRegion slot x y width height payload) = []
 outOf (uploadBitmap slot file) = []
+outOf (beginFill slot) = []
+outOf (feedFill chunk) = []
+outOf finishFill = []
+outOf cancelFill = []
 outOf (start slot tick) = []
 outOf (poll tick out) = out
 outOf abandon = []
@@ -98,6 +110,11 @@ callOn state memory (uploadRegion slot x y width height payload) =
     (regionUpload state memory slot x y width height payload .1) []
 callOn state memory (uploadBitmap slot file) =
     ofReply (uploadBitmap slot file) memory (bitmapUpload state memory slot file .0) (bitmapUpload state memory slot file .1) []
+callOn state memory (beginFill slot) = ofReply (beginFill slot) memory (fillBegin state (length memory) slot) memory []
+callOn state memory (feedFill chunk) =
+    ofReply (feedFill chunk) memory (fillFeed state memory chunk .0) (fillFeed state memory chunk .1) []
+callOn state memory finishFill = ofReply finishFill memory (fillFinish state memory .0) (fillFinish state memory .1) []
+callOn state memory cancelFill = ofReply cancelFill memory (fillCancel state memory .0) (fillCancel state memory .1) []
 callOn state memory (start slot tick) = ofReply (start slot tick) memory (starting state (length memory) slot tick) memory []
 callOn state memory (poll tick out) = ofPoll (poll tick out) memory (polled state tick memory out)
 callOn state memory abandon = ofReply abandon memory (abandoning state (length memory)) memory []

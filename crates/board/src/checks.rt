@@ -3,7 +3,14 @@ ghost use mathlib.Core.Path.{_≡_};
 ghost use Prim.Native.Nat.{_≤_};
 ghost use Rattle.panel.specs.Facts.{Sized};
 ghost use Rattle.settings.specs.Plans.{PlanOf};
-ghost use Rattle.board.specs.State.{phaseValid, storeBytes, storeCases};
+ghost use Rattle.lists.specs.Rules.{every};
+ghost use Rattle.board.specs.State.{
+  phaseValid,
+  isRunsSlot,
+  fillRules,
+  storeBytes,
+  storeCases,
+};
 ghost use Rattle.board.specs.Facts.{stateOf, StatePlanned, Found};
 use crate::Store;
 use panel::Shape;
@@ -30,6 +37,33 @@ fn phase_valid(file: &[u8], plan: Plan, store: Store) -> bool
     }
 }
 
+// Whether a slot is that of the run under way.
+pub fn is_runs_slot(phase: Phase, slot: u32) -> bool
+    ensures { λ r. ⌜ r ≡ isRunsSlot phase slot ⌝ }
+{
+    match phase {
+        Phase::Idle => false,
+        Phase::Abandoned => false,
+        Phase::Running(run) => run.slot == slot,
+    }
+}
+
+// Whether the fill keeps its rules: its slot is one of the store's and not that of the run, and it is valid.
+fn fill_valid(shape: Shape, store: Store) -> bool
+    requires { ⌜ Sized shape ⌝ }
+    ensures { λ r. ⌜ r ≡ every (fillRules shape store) ⌝ }
+{
+    let fill = store.fill;
+    if store.slots < fill.slot {
+        return false;
+    }
+    let phase = store.phase;
+    if is_runs_slot(phase, fill.slot) {
+        return false;
+    }
+    fill::valid(shape.bytes, shape.rows, shape.stride, fill)
+}
+
 // Whether a state keeps its conditions, and the plan of its file where it does. The file is the first `len` bytes.
 fn plan_state(file: &[u8], len: usize, store: Store) -> Planned
     ensures { λ r. ⌜ StatePlanned (stateOf (now (file .entry)) len store) r ⌝ }
@@ -49,7 +83,11 @@ fn plan_state(file: &[u8], len: usize, store: Store) -> Planned
     if 7 < store.slots {
         return settings::no_plan();
     }
-    let ok = phase_valid(kept, plan, store);
+    if !phase_valid(kept, plan, store) {
+        return settings::no_plan();
+    }
+    let shape = plan.shape;
+    let ok = fill_valid(shape, store);
     Planned { ok, plan }
 }
 

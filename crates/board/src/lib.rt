@@ -1,15 +1,27 @@
 // The store: its state, and the calls on it. Every call gives back the state for the next one. A refused call gives back the state that
-// it got, and every lent byte is as before; docs/FORMATS.md says what each number means.
+// it got, and every lent byte is as before, but where 4 ends a fill; docs/FORMATS.md says what each number means.
 ghost use mathlib.Core.Path.{_≡_};
 ghost use Prim.Native.Nat.{_≤_};
 ghost use lib.ListN.{length};
 ghost use Rattle.settings.specs.Settings.{longestFile};
-ghost use Rattle.board.specs.State.{withPhase, storeCases, emptyState, openedState};
+ghost use Rattle.board.specs.State.{
+  withPhase,
+  withFill,
+  storeCases,
+  emptyState,
+  openedState,
+};
 ghost use Rattle.board.specs.Calls.{
   opening,
   uploadCases,
   regionUpload,
   bitmapUpload,
+  fillBegin,
+  fillCases,
+  fedReply,
+  fillFeed,
+  fillFinish,
+  fillCancel,
   starting,
   abandoning,
   polling,
@@ -20,21 +32,25 @@ ghost use Rattle.board.specs.Calls.{
 ghost use Rattle.board.specs.Facts.{Found};
 
 mod checks;
+mod fills;
 mod refusals;
 mod runs;
 mod slots;
 mod uploads;
 
 use checks::Checked;
+use fill::Fed;
+use fill::Fill;
 use poll::Answer;
 use run::Phase;
 use run::Tick;
 use settings::Settings;
 
-// What changes from call to call: the number n of the last slot, and where the store stands.
+// What changes from call to call: the number n of the last slot, where the store stands, and the bitmap file that comes in chunks.
 pub struct Store {
     pub slots: u32,
     pub phase: Phase,
+    pub fill: Fill,
 }
 
 // The state of a store: its settings file, and what changes. docs/STATE.md has the conditions that it keeps.
@@ -60,11 +76,13 @@ pub fn empty_state() -> State
     ensures { λ r. ⌜ r ≡ emptyState ⌝ }
 {
     let settings = settings::no_settings();
+    let fill = fill::empty();
     State {
         settings,
         store: Store {
             slots: 0,
             phase: Phase::Idle,
+            fill,
         },
     }
 }
@@ -75,11 +93,13 @@ fn opened_state(file: &[u8], n: u32) -> State
     ensures { λ r. ⌜ r ≡ openedState (now (file .entry)) n ⌝ }
 {
     let settings = settings::keep(file);
+    let fill = fill::empty();
     State {
         settings,
         store: Store {
             slots: n,
             phase: Phase::Idle,
+            fill,
         },
     }
 }
@@ -110,7 +130,21 @@ impl State {
         ensures { λ r. ⌜ r ≡ withPhase self phase ⌝ }
     {
         let slots = self.store.slots;
-        let store = Store { slots, phase };
+        let fill = self.store.fill;
+        let store = Store { slots, phase, fill };
+        let mut next = self;
+        next.store = store;
+        next
+    }
+
+    // The state with another fill.
+    fn with_fill(self, fill: Fill) -> State
+        ensures { λ r. ⌜ r ≡ withFill self fill ⌝ }
+    {
+        let before = self.store;
+        let slots = before.slots;
+        let phase = before.phase;
+        let store = Store { slots, phase, fill };
         let mut next = self;
         next.store = store;
         next
@@ -124,7 +158,7 @@ impl State {
         checks::check_store(&self.settings.file, self.settings.len, store, memory_len)
     }
 
-    // 13, 1, 3 or 7.
+    // 13, 1, 3, 7 or 15.
     fn check_upload(self, memory_len: usize, slot: u32) -> Checked
         ensures { λ r. ⌜ Found self (uploadCases self «memory_len» slot) r ⌝ }
     {
@@ -132,6 +166,17 @@ impl State {
         let plan = checked.plan;
         let store = self.store;
         let number = refusals::upload_number(checked.number, store, slot);
+        Checked { number, plan }
+    }
+
+    // 13, 1 or 17.
+    fn check_fill(self, memory_len: usize) -> Checked
+        ensures { λ r. ⌜ Found self (fillCases self «memory_len») r ⌝ }
+    {
+        let checked = self.check(memory_len);
+        let plan = checked.plan;
+        let store = self.store;
+        let number = refusals::fill_number(checked.number, store);
         Checked { number, plan }
     }
 
@@ -152,7 +197,7 @@ impl State {
     }
 
     // Paints the dots of a region of slot 1 to n: `width` by `height` dots from dot x of row y on. The payload has ceil(width / 8) bytes a
-    // row, unused low bits 0. Numbers: 13, 1, 3, 7, 5, 6.
+    // row, unused low bits 0. Numbers: 13, 1, 3, 7, 15, 5, 6.
     pub fn upload_region(
         self,
         memory: &mut [u8],
@@ -183,7 +228,7 @@ impl State {
         }
     }
 
-    // Makes slot 1 to n hold the picture of a whole bitmap file. Numbers: 13, 1, 3, 7, 4.
+    // Makes slot 1 to n hold the picture of a whole bitmap file. Numbers: 13, 1, 3, 7, 15, 4.
     pub fn upload_bitmap(self, memory: &mut [u8], slot: u32, bitmap: &[u8]) -> Reply
         ensures { λ r. ⌜ (r, now (memory .exit)) ≡ bitmapUpload self (now (memory .entry)) slot (now (bitmap .entry)) ⌝ }
     {
@@ -204,7 +249,93 @@ impl State {
         }
     }
 
-    // Starts a run that shows slot 1 to n, at a tick reading. Numbers: 13, 1, 8, 12, 3.
+    // Begins to fill slot 1 to n with a bitmap file that comes in chunks. No byte changes. Numbers: 13, 1, 3, 7, 15, 16.
+    pub fn begin_fill(self, memory: &[u8], slot: u32) -> Reply
+        ensures { λ r. ⌜ r ≡ fillBegin self (length (now (memory .entry))) slot ⌝ }
+    {
+        let checked = self.check(memory.len());
+        let store = self.store;
+        let number = refusals::begin_number(checked.number, store, slot);
+        if number != 0 {
+            return Reply {
+                number,
+                state: self,
+            };
+        }
+        Reply {
+            number: 0,
+            state: self.with_fill(fill::begun(slot)),
+        }
+    }
+
+    // The reply to what was done to the slot being filled.
+    fn reply_fed(self, fed: Fed) -> Reply
+        ensures { λ r. ⌜ r ≡ fedReply self fed ⌝ }
+    {
+        let fill = fed.fill;
+        Reply {
+            number: fed.number,
+            state: self.with_fill(fill),
+        }
+    }
+
+    // Takes the next bytes of the file, of whatever length; each row is in the slot once its whole stride has come. Numbers: 13, 1, 17, 4.
+    // With 4, where the bytes so far begin no good file, the fill is over and its slot all white.
+    pub fn feed_fill(self, memory: &mut [u8], chunk: &[u8]) -> Reply
+        ensures { λ r. ⌜ (r, now (memory .exit)) ≡ fillFeed self (now (memory .entry)) (now (chunk .entry)) ⌝ }
+    {
+        let checked = self.check_fill(memory.len());
+        let plan = checked.plan;
+        let number = checked.number;
+        if number != 0 {
+            return Reply {
+                number,
+                state: self,
+            };
+        }
+        let shape = plan.shape;
+        let fill = self.store.fill;
+        self.reply_fed(fills::feed_slot(shape, memory, fill, chunk))
+    }
+
+    // Ends the file, all of whose bytes have come: the slot holds its picture. Numbers: 13, 1, 17, 4. With 4, where bytes are missing, the
+    // fill is over too and its slot all white.
+    pub fn finish_fill(self, memory: &mut [u8]) -> Reply
+        ensures { λ r. ⌜ (r, now (memory .exit)) ≡ fillFinish self (now (memory .entry)) ⌝ }
+    {
+        let checked = self.check_fill(memory.len());
+        let plan = checked.plan;
+        let number = checked.number;
+        if number != 0 {
+            return Reply {
+                number,
+                state: self,
+            };
+        }
+        let shape = plan.shape;
+        let fill = self.store.fill;
+        self.reply_fed(fills::finish_slot(shape, memory, fill))
+    }
+
+    // Gives the fill up: its slot is all white. Numbers: 13, 1, 17.
+    pub fn cancel_fill(self, memory: &mut [u8]) -> Reply
+        ensures { λ r. ⌜ (r, now (memory .exit)) ≡ fillCancel self (now (memory .entry)) ⌝ }
+    {
+        let checked = self.check_fill(memory.len());
+        let plan = checked.plan;
+        let number = checked.number;
+        if number != 0 {
+            return Reply {
+                number,
+                state: self,
+            };
+        }
+        let shape = plan.shape;
+        let fill = self.store.fill;
+        self.reply_fed(fills::cancel_slot(shape, memory, fill))
+    }
+
+    // Starts a run that shows slot 1 to n, at a tick reading. Numbers: 13, 1, 8, 12, 3, 15.
     pub fn start(self, memory: &[u8], slot: u32, tick: Tick) -> Reply
         ensures { λ r. ⌜ r ≡ starting self (length (now (memory .entry))) slot tick ⌝ }
     {

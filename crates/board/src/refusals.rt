@@ -9,9 +9,10 @@ ghost use Rattle.board.specs.Calls.{
   takesPictures,
   isRunning,
   isAbandoned,
-  isRunsSlot,
   openCases,
   uploadOwn,
+  beginOwn,
+  fillOwn,
   startOwn,
   abandonOwn,
   writeOwn,
@@ -55,17 +56,6 @@ fn is_abandoned(phase: Phase) -> bool
     }
 }
 
-// Whether a slot is that of the run under way.
-fn is_runs_slot(phase: Phase, slot: u32) -> bool
-    ensures { λ r. ⌜ r ≡ isRunsSlot phase slot ⌝ }
-{
-    match phase {
-        Phase::Idle => false,
-        Phase::Abandoned => false,
-        Phase::Running(run) => run.slot == slot,
-    }
-}
-
 // Whether a slot takes uploads and starts.
 fn takes_pictures(slots: u32, slot: u32) -> bool
     ensures { λ r. ⌜ r ≡ takesPictures slots slot ⌝ }
@@ -98,23 +88,39 @@ pub fn open_number(file: &[u8], n: u32, memory_len: usize) -> u8
     0
 }
 
-// 3 or 7.
+// 3, 7 or 15.
 pub fn upload_number(before: u8, store: Store, slot: u32) -> u8
     ensures { λ r. ⌜ r ≡ numberAfter before (uploadOwn store slot) ⌝ }
 {
     let phase = store.phase;
     let absent = or_number(before, !takes_pictures(store.slots, slot), 3);
-    or_number(absent, is_runs_slot(phase, slot), 7)
+    let running = or_number(absent, checks::is_runs_slot(phase, slot), 7);
+    or_number(running, store.fill.slot == slot, 15)
 }
 
-// 8, 12 or 3.
+// 3, 7, 15 or 16.
+pub fn begin_number(before: u8, store: Store, slot: u32) -> u8
+    ensures { λ r. ⌜ r ≡ numberAfter before (beginOwn store slot) ⌝ }
+{
+    or_number(upload_number(before, store, slot), store.fill.slot != 0, 16)
+}
+
+// 17.
+pub fn fill_number(before: u8, store: Store) -> u8
+    ensures { λ r. ⌜ r ≡ numberAfter before (fillOwn store) ⌝ }
+{
+    or_number(before, store.fill.slot == 0, 17)
+}
+
+// 8, 12, 3 or 15.
 pub fn start_number(before: u8, store: Store, slot: u32) -> u8
     ensures { λ r. ⌜ r ≡ numberAfter before (startOwn store slot) ⌝ }
 {
     let phase = store.phase;
     let running = or_number(before, is_running(phase), 8);
     let abandoned = or_number(running, is_abandoned(phase), 12);
-    or_number(abandoned, !takes_pictures(store.slots, slot), 3)
+    let absent = or_number(abandoned, !takes_pictures(store.slots, slot), 3);
+    or_number(absent, store.fill.slot == slot, 15)
 }
 
 // 9.

@@ -57,7 +57,7 @@ pub length-raw : (b h : ℕ) (picture : List ℕ) → length picture ≡ h * b �
 unfolding rawOf
 length-raw b h picture e = e
 
-length-picture : (b h : ℕ) (l : List ℕ) → length l ≡ h * b → length (pictureOf b h l) ≡ h * b
+pub length-picture : (b h : ℕ) (l : List ℕ) → length l ≡ h * b → length (pictureOf b h l) ≡ h * b
 unfolding pictureOf
 length-picture b h l e = e
 

@@ -281,12 +281,30 @@ fn poll(line: &[u8]) -> Command {
     }
 }
 
-// `abandon`
-fn abandon(line: &[u8]) -> Command {
-    if line.len() != 7 {
+// `begin SLOT`
+fn begin(line: &[u8]) -> Command {
+    let slot = read_number(line, 5);
+    if slot.next != line.len() {
         return Command::Malformed;
     }
-    Command::Abandon
+    Command::Begin { slot: slot.value }
+}
+
+// `chunk HEX`
+fn chunk(line: &[u8], bytes: &mut [u8]) -> Command {
+    let chunk = read_bytes(line, 5, bytes);
+    if chunk.next != line.len() {
+        return Command::Malformed;
+    }
+    Command::Chunk { size: chunk.value }
+}
+
+// `abandon`, `finish` or `cancel`: a line that is nothing but its word, of `len` bytes.
+fn alone(line: &[u8], len: usize, command: Command) -> Command {
+    if line.len() != len {
+        return Command::Malformed;
+    }
+    command
 }
 
 // `write SLOT [LEN]`
@@ -302,7 +320,24 @@ fn write(line: &[u8]) -> Command {
     }
 }
 
-// The lines that bring bytes.
+// The lines of a fill.
+fn of_fill(line: &[u8], bytes: &mut [u8]) -> Command {
+    if begins(line, b"begin") {
+        return begin(line);
+    }
+    if begins(line, b"chunk") {
+        return chunk(line, bytes);
+    }
+    if begins(line, b"finish") {
+        return alone(line, 6, Command::Finish);
+    }
+    if begins(line, b"cancel") {
+        return alone(line, 6, Command::Cancel);
+    }
+    Command::Malformed
+}
+
+// The lines that bring a file or a payload.
 fn with_bytes(line: &[u8], bytes: &mut [u8]) -> Command {
     if begins(line, b"open") {
         return open(line, bytes);
@@ -313,7 +348,7 @@ fn with_bytes(line: &[u8], bytes: &mut [u8]) -> Command {
     if begins(line, b"bitmap") {
         return bitmap_upload(line, bytes);
     }
-    Command::Malformed
+    of_fill(line, bytes)
 }
 
 // What a line asks for. The bytes that it brings stand in `bytes`.
@@ -325,7 +360,7 @@ pub fn command_of(line: &[u8], bytes: &mut [u8]) -> Command {
         return start(line);
     }
     if begins(line, b"abandon") {
-        return abandon(line);
+        return alone(line, 7, Command::Abandon);
     }
     if begins(line, b"write") {
         return write(line);

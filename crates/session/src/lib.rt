@@ -34,6 +34,10 @@ pub enum Command {
     Poll { tick: u32, len: usize },
     Abandon,
     Write { slot: u32, len: usize },
+    Begin { slot: u32 },
+    Chunk { size: usize },
+    Finish,
+    Cancel,
     Malformed,
 }
 
@@ -177,6 +181,34 @@ fn upload_bitmap(
     answered(text, session, reply)
 }
 
+fn begin_fill(text: &mut [u8], memory: &[u8], session: Session, slot: u32) -> Session {
+    let lent = within(memory, session.lent);
+    let state = session.state;
+    let reply = state.begin_fill(&memory[..lent], slot);
+    answered(text, session, reply)
+}
+
+fn feed_fill(text: &mut [u8], memory: &mut [u8], session: Session, chunk: &[u8]) -> Session {
+    let lent = within(memory, session.lent);
+    let state = session.state;
+    let reply = state.feed_fill(&mut memory[..lent], chunk);
+    answered(text, session, reply)
+}
+
+fn finish_fill(text: &mut [u8], memory: &mut [u8], session: Session) -> Session {
+    let lent = within(memory, session.lent);
+    let state = session.state;
+    let reply = state.finish_fill(&mut memory[..lent]);
+    answered(text, session, reply)
+}
+
+fn cancel_fill(text: &mut [u8], memory: &mut [u8], session: Session) -> Session {
+    let lent = within(memory, session.lent);
+    let state = session.state;
+    let reply = state.cancel_fill(&mut memory[..lent]);
+    answered(text, session, reply)
+}
+
 fn start(text: &mut [u8], memory: &[u8], session: Session, slot: u32, tick: u32) -> Session {
     let lent = within(memory, session.lent);
     let state = session.state;
@@ -270,7 +302,27 @@ fn write(text: &mut [u8], memory: &[u8], session: Session, slot: u32, len: usize
     write_into(text, memory, session, slot, &mut out[..k])
 }
 
-// Makes a call that brings bytes.
+// Makes a call of a fill.
+fn call_fill(
+    text: &mut [u8],
+    memory: &mut [u8],
+    session: Session,
+    command: Command,
+    bytes: &[u8],
+) -> Session {
+    match command {
+        Command::Begin { slot } => begin_fill(text, memory, session, slot),
+        Command::Chunk { size } => {
+            let k = within(bytes, size);
+            feed_fill(text, memory, session, &bytes[..k])
+        }
+        Command::Finish => finish_fill(text, memory, session),
+        Command::Cancel => cancel_fill(text, memory, session),
+        _ => malformed(text, session),
+    }
+}
+
+// Makes a call that brings a file or a payload.
 fn call_with_bytes(
     text: &mut [u8],
     memory: &mut [u8],
@@ -296,7 +348,7 @@ fn call_with_bytes(
             let k = within(bytes, size);
             upload_bitmap(text, memory, session, slot, &bytes[..k])
         }
-        _ => malformed(text, session),
+        _ => call_fill(text, memory, session, command, bytes),
     }
 }
 

@@ -27,13 +27,15 @@ use Rattle.run.specs.declared.Phase.{Phase}
 use Rattle.run.specs.declared.Phase.the-variants.{Idle, Abandoned, Running}
 use Rattle.poll.specs.HandOut.{Outcome, outcome, stepBytes, lineBytes, handOut}
 use Rattle.poll.specs.declared.Answer.the-variants as answer
-use Rattle.board.specs.State.{fileOf, sizesOf, withPhase, stateValid}
-use Rattle.board.specs.Calls.{isRunsSlot, reply, startCases, starting}
+use Rattle.board.specs.State.{fileOf, sizesOf, isRunsSlot, withPhase, stateValid}
+use Rattle.board.specs.Calls.{reply, startCases, starting}
 use Rattle.board.specs.History.{Call, start, Given, number, answered, isAccepted, isDoneAnswer, isDone, Event, event, outOf, Called, callOn, eventsOf}
 use Rattle.board.specs.declared.State.{State}
 use Rattle.board.specs.declared.Reply.{Reply}
+use Rattle.board.proofs.States.{valid-state}
 use Rattle.board.proofs.Effects as effects
-use Rattle.board.proofs.Effects.{Effect, leaving, polledTo, effect}
+use Rattle.board.proofs.Effects.{Effect, leaving, filledTo, polledTo, effect}
+use Rattle.board.proofs.Filled.{filled-low, filled-others}
 use Rattle.theorems.specs.Order.{Thing, aWrite, aLine, theEnd, writesOf, rowsFrom, framesFrom, stagesFrom, thingsOfRun, thingsIn}
 use Rattle.theorems.specs.Progress.{handsOut, Goes, nothing, hands, turns, noTurns}
 use Rattle.theorems.specs.Frames.{writesPut, times, linePut, rowsPut, framePut, stagePut, runPut, putsAny, handedBy, allPut, isDoneBy, wasDone, Shows, EqualFrames}
@@ -177,6 +179,16 @@ module _ (state : State) (memory shown new : List ℕ) (slot : ℕ) (on : runsOn
       (other-changed (fileOf state) shown new slot memory memory′ t (may .takes .low)
       (others-kept (sizesOf state .bytes) (sizesOf state .rows) (state .store .slots) memory (u .exact) t (may .takes .high) picture long)
       (state .store .phase) on (may .not-runs) holds)
+  effect-leaves (effects.begins t u may) f = record { lent = refl; holds = holds; over = λ d. absurd (false≢true d) }
+  effect-leaves (effects.fills call act kind t is) f =
+      record {
+        lent = refl;
+        holds =
+            other-changed (fileOf state) shown new slot memory (filledTo state memory call act .memory) (state .store .fill .slot)
+            (filled-low (state .store .fill) is) (filled-others state memory t kind) (state .store .phase) on
+            (valid-state state (t .valid) .fill-apart) holds;
+        over = λ d. absurd (false≢true d);
+      }
   effect-leaves (effects.starts t tick u may) f = absurd (false≢true (sym f))
   effect-leaves (effects.abandons t is) f = absurd (false≢true (sym f))
   effect-leaves (effects.waits tick out run moment at before) f =

@@ -12,10 +12,15 @@ use Rattle.run.specs.declared.Passed.{Passed}
 use Rattle.run.specs.declared.Position.{Position}
 use Rattle.run.specs.declared.Position.the-variants.{Start, Line, Stop}
 use Rattle.run.specs.declared.Run.{Run}
+use Rattle.run.specs.declared.Phase.{Phase}
 use Rattle.run.specs.declared.Phase.the-variants.{Idle}
 use Rattle.poll.specs.HandOut.{Outcome, outcome, shownAfter, sendWrite, sendLine, handStart, handStop, handOut}
 use Rattle.poll.specs.declared.Answer.the-variants.{Done}
 use Rattle.theorems.specs.Progress.{isHandOut, answerIn}
+
+-- the phase that a poll leaves
+abbrev pub phaseIn : Outcome → Phase
+phaseIn (outcome answer phase memory out) = phase
 
 module _ (file : List ℕ) (run : Run) (tick : Tick) (moment : Passed) (memory out : List ℕ) where
   pub by-handed : (P : Outcome → Type 0) → ((step : Step) (next : Position) → P (sendWrite file run tick moment memory out step next))

@@ -8,15 +8,19 @@ use Prim.Native.Nat.{ℕ}
 use lib.Dec.{eqb}
 use Rattle.lists.proofs.Rules.{broken}
 use Rattle.board.specs.State.{stateRules, stateValid, emptyState}
-use Rattle.board.specs.Calls.{regionUpload, bitmapUpload, starting, abandoning, polled, bitmapWrite}
-use Rattle.board.specs.History.{Call, uploadRegion, uploadBitmap, start, poll, abandon, writeBitmap, numberGiven, isAccepted, givenBy, callOn}
+use Rattle.board.specs.Calls.{regionUpload, bitmapUpload, fillBegin, fillFeed, fillFinish, fillCancel, starting, abandoning, polled, bitmapWrite}
+use Rattle.board.specs.History.{Call, uploadRegion, uploadBitmap, beginFill, feedFill, finishFill, cancelFill, start, poll, abandon, writeBitmap, numberGiven, isAccepted, givenBy, callOn}
 use Rattle.board.specs.declared.State.{State}
 
 pub invalid-refused : (state : State) (memory : List ℕ) (call : Call) → stateValid state ≡ false
     → numberGiven (givenBy (callOn state memory call .seen)) ≡ 13
-unfolding regionUpload bitmapUpload starting abandoning polled bitmapWrite
+unfolding regionUpload bitmapUpload fillBegin fillFeed fillFinish fillCancel starting abandoning polled bitmapWrite
 invalid-refused state memory (uploadRegion slot x y width height payload) e = rw e
 invalid-refused state memory (uploadBitmap slot file) e = rw e
+invalid-refused state memory (beginFill slot) e = rw e
+invalid-refused state memory (feedFill chunk) e = rw e
+invalid-refused state memory finishFill e = rw e
+invalid-refused state memory cancelFill e = rw e
 invalid-refused state memory (start slot tick) e = rw e
 invalid-refused state memory (poll tick out) e = rw e
 invalid-refused state memory abandon e = rw e

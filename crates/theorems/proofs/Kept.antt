@@ -1,15 +1,22 @@
 -- What an accepted call leaves, and an accepted opening, is valid: it keeps every condition on a state.
 -- Assumes nothing.
-use mathlib.Core.Path.{_≡_, refl, ap, _∙_}
-use mathlib.Core.Bool.{true}
+use mathlib.Core.Path.{_≡_, refl, sym, ap, _∙_}
+use mathlib.Core.Bool.{true, false}
 use mathlib.Core.List.{List, [], _∷_}
 use Prim.Native.Nat.{ℕ, _≤_}
 use native.Mathlib.Omega.{arith}
+use borrow.Author.Tests.{eqb-false, ne-eqb}
+use lib.Dec.{eqb}
 use lib.ListN.{length, drop, replicate, length-replicate}
 use Rattle.lists.proofs.Lists.{length-overlay}
-use Rattle.settings.specs.Settings.{Step, startSteps, stopSteps, settingsGood, longestFile}
+use Rattle.panel.proofs.Panels.{size-of}
+use Rattle.settings.specs.Settings.{Step, panelOf, startSteps, stopSteps, settingsGood, longestFile, rowBytesIn, rowsIn, strideIn}
 use Rattle.settings.specs.Steps.{fromWrite}
-use Rattle.settings.proofs.Accepted.{good-short}
+use Rattle.settings.proofs.Accepted.{good-short, good-panel}
+use Rattle.fill.specs.Fills.{begunFill, emptyFill}
+use Rattle.fill.specs.Conditions.{fillValid}
+use Rattle.fill.specs.declared.Fed.{Fed}
+use Rattle.fill.proofs.Kept.{valid-begun}
 use Rattle.run.specs.Clock.{passedAt}
 use Rattle.run.specs.Conditions.{runValid}
 use Rattle.run.specs.Due.{dueOf}
@@ -19,18 +26,22 @@ use Rattle.run.specs.declared.Passed.{Passed}
 use Rattle.run.specs.declared.Position.{Position}
 use Rattle.run.specs.declared.Position.the-variants.{Start, Line, Stop}
 use Rattle.run.specs.declared.Run.{Run}
-use Rattle.run.specs.declared.Phase.the-variants.{Abandoned, Running}
+use Rattle.run.specs.declared.Phase.{Phase}
+use Rattle.run.specs.declared.Phase.the-variants.{Idle, Abandoned, Running}
+use Rattle.run.proofs.Valid as runs
 use Rattle.run.proofs.Keeps.{begun-valid, waited-valid, start-written, stop-written, first-line, line-handed}
 use Rattle.poll.specs.HandOut.{Outcome, outcome, handStart, handStop, handOut}
-use Rattle.board.specs.State.{fileOf, phaseValid, stateValid, openedState}
-use Rattle.board.specs.Calls.{opening}
+use Rattle.board.specs.State.{fileOf, sizesOf, isRunsSlot, phaseValid, stateValid, openedState}
+use Rattle.board.specs.Calls.{isFilling, opening}
 use Rattle.board.specs.History.{Call, isAccepted, givenBy, Called, callOn}
 use Rattle.board.specs.declared.State.{State}
 use Rattle.board.specs.declared.Reply.{Reply}
-use Rattle.board.proofs.States.{valid-state, state-valid, phase-kept, run-of}
-use Rattle.board.proofs.Effects.{Effect, refuses, reads, draws, starts, abandons, waits, hands, At, polledTo, effect}
+use Rattle.board.proofs.States.{Tested, valid-state, state-valid, phase-kept, fill-kept, run-of}
+use Rattle.board.proofs.Effects.{Fills, filledTo, Effect, refuses, reads, draws, begins, fills, starts, abandons, waits, hands, At, polledTo, effect}
+use Rattle.board.proofs.Filled.{act-valid, act-slot, sized}
 use Rattle.board.proofs.Opening.{opened, opened-file}
 use Rattle.theorems.specs.Progress.{stateAfter}
+use Rattle.theorems.proofs.Handed.{phaseIn, by-handed}
 use Rattle.theorems.proofs.Invalid.{was-valid}
 
 -- ---- polls
@@ -60,28 +71,64 @@ module _ (file : List ℕ) (n : ℕ) (run : Run) (tick : Tick) (memory out : Lis
 -- ---- every call
 
 module _ (state : State) (memory : List ℕ) (valid : stateValid state ≡ true) where
+  -- the slot being filled, 0 where there is none
+  abbrev filled : ℕ
+  filled = state .store .fill .slot
+
   in-state : (tick : Tick) (out : List ℕ) (o : Outcome) → Leaves (fileOf state) (state .store .slots) o
-      → stateValid (polledTo state memory tick out o .state) ≡ true
-  in-state tick out (outcome answer phase memory′ out′) e = phase-kept state phase valid e
+      → isRunsSlot (phaseIn o) filled ≡ false → stateValid (polledTo state memory tick out o .state) ≡ true
+  in-state tick out (outcome answer phase memory′ out′) e apart = phase-kept state phase valid e apart
+
+  -- a run under way has another slot
+  run-apart : (run : Run) → state .store .phase ≡ Running run → eqb (run .slot) filled ≡ false
+  run-apart run at = ap (λ (p : Phase). isRunsSlot p filled) (sym at) ∙ valid-state state valid .fill-apart
+
+  no-run-of-0 : isRunsSlot (state .store .phase) 0 ≡ false
+  no-run-of-0 = go (state .store .phase) (valid-state state valid .phase-good)
+    where
+      go : (phase : Phase) → phaseValid (fileOf state) (state .store .slots) phase ≡ true → isRunsSlot phase 0 ≡ false
+      go Idle e = refl
+      go Abandoned e = refl
+      go (Running run) e =
+          let low = runs.valid (fileOf state) (state .store .slots) run e .low in
+          ne-eqb (run .slot) 0 (λ z. absurd (omega (arith, low, z)))
+
+  fills-valid : {call : Call} {act : List ℕ → Fed × List ℕ} → Fills (sizesOf state) (state .store .fill) call act
+      → Tested state (length memory) → isFilling (state .store .fill) ≡ true → stateValid (filledTo state memory call act .state) ≡ true
+  fills-valid kind t is =
+      let v = valid-state state valid in
+      let slot : (P : ℕ → Type 0) → P filled → P 0 → _ = act-slot kind (sized state memory t) (v .fill-good) _ in
+      fill-kept state _ valid (slot (λ k. k ≤ state .store .slots) (v .fill-high) (omega arith))
+      (slot (λ k. isRunsSlot (state .store .phase) k ≡ false) (v .fill-apart) no-run-of-0)
+      (act-valid kind (sized state memory t) (v .fill-good) is _)
 
   -- a call on a valid state leaves a valid state, accepted or not
-  leaves-valid : {call : Call} {called : Called} → Effect state memory call called → stateValid (called .state) ≡ true
+  pub leaves-valid : {call : Call} {called : Called} → Effect state memory call called → stateValid (called .state) ≡ true
   leaves-valid (refuses call given e) = valid
   leaves-valid (reads call out′ e t) = valid
   leaves-valid (draws call slot picture e t may long) = valid
+  leaves-valid (begins slot t may) =
+      let z = sized state memory t in
+      fill-kept state (begunFill slot) valid (may .upload .takes .high) (may .upload .not-runs)
+      (valid-begun (sizesOf state .bytes) (sizesOf state .rows) (sizesOf state .stride) (z .some) (z .narrow) (z .within) (z .small) (z .low) slot)
+  leaves-valid (fills call act kind t is) = fills-valid kind t is
   leaves-valid (starts slot tick t may) =
       phase-kept state (Running (begun slot tick)) valid
       (begun-valid (fileOf state) (state .store .slots) slot tick (may .takes .low) (may .takes .high))
-  leaves-valid (abandons t is) = phase-kept state Abandoned valid refl
+      (ne-eqb slot (state .store .fill .slot) (λ e. eqb-false (state .store .fill .slot) slot (may .not-filled) (sym e)))
+  leaves-valid (abandons t is) = phase-kept state Abandoned valid refl refl
   leaves-valid (waits tick out run moment at before) =
       let later : run .passed .0 ≤ moment .0 =
       let q : moment .0 ≡ passedAt (run .passed) (run .last) tick = ap (λ (p : Passed). p .0) (at .is) in omega arith in
       phase-kept state _ valid
       (waited-valid (fileOf state) (state .store .slots) run (run-of state run valid (at .runs)) tick moment later)
+      (run-apart run (at .runs))
   leaves-valid (hands tick out run moment at due) =
       in-state tick out (handOut (fileOf state) run tick moment memory out (run .next))
       (handed-leaves (fileOf state) (state .store .slots) run tick memory out (valid-state state valid .good)
       (run-of state run valid (at .runs)) moment due (run .next) refl)
+      (by-handed (fileOf state) run tick moment memory out (λ o. isRunsSlot (phaseIn o) filled ≡ false)
+      (λ step next. run-apart run (at .runs)) (λ first stage frame row. run-apart run (at .runs)) refl (run .next))
 
   pub stays-valid : (call : Call) → stateValid (callOn state memory call .state) ≡ true
   stays-valid call = leaves-valid (effect state memory call)
@@ -99,6 +146,12 @@ all-valid state valid memory (call ∷ calls) = all-valid _ (stays-valid state m
 
 -- ---- opening
 
+-- no fill is a valid one
+empty-valid : (file : List ℕ) → settingsGood file ≡ true → fillValid (rowBytesIn file) (rowsIn file) (strideIn file) emptyFill ≡ true
+empty-valid file good =
+    let z = size-of (panelOf file) (good-panel file good) in
+    valid-begun (rowBytesIn file) (rowsIn file) (strideIn file) (z .some) (z .narrow) (z .within) (z .small) (z .low) 0
+
 -- the state from an accepted opening is valid: an accepted file fits in the state, which keeps it whole
 pub opened-valid : (file : List ℕ) (n : ℕ) (memory : List ℕ) → opening file n memory .0 .number ≡ 0
     → stateValid (opening file n memory .0 .state) ≡ true
@@ -109,4 +162,13 @@ opened-valid file n memory accepted =
     let fits : length file ≤ length (openedState file n .settings .file) = rw (length-overlay file blank room) room in
     ap (λ (r : Reply × List ℕ). stateValid (r .0 .state)) (o .leaves)
     ∙ state-valid (openedState file n)
-    (record { within = fits; good = rw (opened-file file n) (o .good); some = o .some; few = o .few; phase-good = refl })
+    (record {
+      within = fits;
+      good = rw (opened-file file n) (o .good);
+      some = o .some;
+      few = o .few;
+      phase-good = refl;
+      fill-high = omega arith;
+      fill-apart = refl;
+      fill-good = rw (opened-file file n) (empty-valid file (o .good));
+    })

@@ -5,6 +5,8 @@ pub mod Invalid
 pub mod Kept
 -- Bitmaps through the calls: written files read back, read files are written in normal form.
 pub mod RoundTrips
+-- A bitmap file that comes in chunks, whatever other calls stand between.
+pub mod Fills
 -- Polls hand out exactly the things of a run, in order, and come to its end.
 pub mod Things
 pub mod Order

@@ -32,7 +32,7 @@ use Rattle.board.proofs.Effects as effects
 use Rattle.board.proofs.Effects.{Effect, leaving, polledTo, effect}
 use Rattle.theorems.specs.Order.{Thing, aWrite, aLine, theEnd, thingsOfRun, thingsIn, thingBytes, thingAnswer, HandsFirst, InOrder}
 use Rattle.theorems.specs.Progress.{handsOut, Goes, nothing, hands, AllGo, none, more, turns, noTurns, stateAfter}
-use Rattle.theorems.proofs.Handed.{by-handed}
+use Rattle.theorems.proofs.Handed.{phaseIn, by-handed}
 use Rattle.theorems.proofs.Kept.{stays-valid, valid-kept}
 use Rattle.theorems.proofs.Order.{in-order}
 
@@ -65,9 +65,6 @@ pub put-thing : (file memory : List ℕ) (slot : ℕ) (thing : Thing) (out : Lis
 put-thing file memory slot (aWrite step) out = take-overlay (stepBytes step) out
 put-thing file memory slot (aLine stage frame row) out = take-overlay (lineBytes file memory slot stage row) out
 put-thing file memory slot theEnd out = refl
-
-abbrev phaseIn : Outcome → Phase
-phaseIn (outcome answer phase memory out) = phase
 
 module _ (file : List ℕ) (slot : ℕ) (tick : Tick) (memory out : List ℕ) where
   goes-first : (toCome : List Thing) (given : Answer) (phase : Phase) (out′ : List ℕ)
@@ -126,6 +123,8 @@ module _ (state : State) (memory : List ℕ) (slot : ℕ) (valid : stateValid st
   effect-on (effects.refuses call given e) f = stays-on call given (refused-hands given e) memory (outOf call)
   effect-on (effects.reads call out′ e t) f = stays-on call (number 0) refl memory out′
   effect-on (effects.draws call t picture e u may long) f = stays-on call (number 0) refl _ (outOf call)
+  effect-on (effects.begins t u may) f = record { file-kept = refl; slot-kept = on; goes = nothing refl }
+  effect-on (effects.fills call act kind t is) f = record { file-kept = refl; slot-kept = on; goes = nothing refl }
   effect-on (effects.starts t tick u may) f = absurd (false≢true (sym f))
   effect-on (effects.abandons t is) f = absurd (false≢true (sym f))
   effect-on (effects.waits tick out run moment at before) f =

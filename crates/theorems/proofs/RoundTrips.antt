@@ -23,8 +23,8 @@ use Rattle.picture.proofs.Slots.{Rows, slot-fits, rows-slot, with-own-picture, 
 use Rattle.bitmap.specs.Header.{fileLength}
 use Rattle.bitmap.specs.Bitmap.{bitmapGood, readPicture, writtenFile, normalForm}
 use Rattle.bitmap.proofs.RoundTrip.{length-file, rows-read, read-written, write-read, read-normal, good-written}
-use Rattle.board.specs.State.{fileOf, sizesOf, storeBytes, storeCases}
-use Rattle.board.specs.Calls.{isRunsSlot, reply, uploadOwn, uploadCases, bitmapCases, bitmapDrawn, bitmapUpload, writeOwn, writeCases, bitmapWritten, bitmapWrite}
+use Rattle.board.specs.State.{fileOf, sizesOf, isRunsSlot, storeBytes, storeCases}
+use Rattle.board.specs.Calls.{isFilled, reply, uploadOwn, uploadCases, bitmapCases, bitmapDrawn, bitmapUpload, writeOwn, writeCases, bitmapWritten, bitmapWrite}
 use Rattle.board.specs.declared.State.{State}
 use Rattle.board.specs.declared.Reply.{Reply}
 use Rattle.theorems.specs.Copies.{fileLeft, Carried, FileCarries}
@@ -52,7 +52,7 @@ module _ (state : State) where
         (reply 0 state, bitmapWritten (sizesOf state) memory slot out)
         (none-both (store-free state (length memory) t) (write-free (state .store) (sizesOf state) slot (length out) may))
 
-    uploads : (file : List ℕ) → Tested state (length memory) → Uploadable (state .store) slot → bitmapGood b h s file ≡ true
+    pub uploads : (file : List ℕ) → Tested state (length memory) → Uploadable (state .store) slot → bitmapGood b h s file ≡ true
         → bitmapUpload state memory slot file ≡ (reply 0 state, bitmapDrawn (sizesOf state) memory slot file)
     unfolding bitmapUpload
     uploads file t may good =
@@ -111,12 +111,12 @@ module _ (state : State) where
 
     -- what the writer made of a slot that takes uploads, uploaded again to that slot: the memory stays
     pub write-upload : (out : List ℕ) → Bytes memory → bitmapWrite state memory slot out .0 .number ≡ 0
-        → 1 ≤ slot → isRunsSlot (state .store .phase) slot ≡ false
+        → 1 ≤ slot → isRunsSlot (state .store .phase) slot ≡ false → isFilled (state .store .fill) slot ≡ false
         → bitmapUpload state memory slot
         (take (fileLength (rowsIn (fileOf state)) (strideIn (fileOf state))) (bitmapWrite state memory slot out .1))
         ≡ (reply 0 state, memory)
     unfolding bitmapWrite
-    write-upload out bytes accepted low free =
+    write-upload out bytes accepted low free unfilled =
         by-cases
         (λ (r : Reply × List ℕ). r .0 .number ≡ 0 → bitmapUpload state memory slot (take (fileLength h s) (r .1)) ≡ (reply 0 state, memory))
         (writeCases state (length memory) slot (length out)) (λ number. (reply number state, out))
@@ -141,7 +141,7 @@ module _ (state : State) where
             let is : take (fileLength h s) (overlay file out) ≡ file = rw (← length-file b h s picture) (take-overlay file out) in
             let long : length picture ≡ h * b = rows-slot b h memory slot inside (z .some) bytes .0 in
             ap (bitmapUpload state memory slot) is
-            ∙ uploads memory slot file t (record { takes = record { low = low; high = high }; not-runs = free }) good
+            ∙ uploads memory slot file t (record { takes = record { low = low; high = high }; not-runs = free; not-filled = unfilled }) good
             ∙ rw (read-written b h s (z .some) (z .within) picture long, with-own-picture b h memory slot inside (z .some) bytes)
 
     -- the normal form of an accepted file does the same as the file

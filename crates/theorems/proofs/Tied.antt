@@ -3,11 +3,11 @@
 -- Assumes nothing.
 use mathlib.Core.Path.{_≡_, refl, sym, ap, subst, _∙_}
 use mathlib.Core.Bool.{true, false}
-use mathlib.Core.List.{List, []}
+use mathlib.Core.List.{List, [], _∷_, _++_, map}
 use Prim.Native.Nat.{ℕ, _≤_}
 use borrow.Author.Tests.{eqb-false}
 use lib.Dec.{eqb}
-use lib.ListN.{length}
+use lib.ListN.{length, drop}
 use Rattle.lists.specs.Lists.{overlay}
 use Rattle.lists.specs.Rules.{firstOf}
 use Rattle.lists.proofs.Rules.{by-cases}
@@ -16,26 +16,30 @@ use Rattle.picture.specs.Slots.{slotPicture}
 use Rattle.bitmap.specs.Header.{fileLength}
 use Rattle.bitmap.specs.Bitmap.{normalForm}
 use Rattle.board.specs.State.{fileOf, sizesOf, stateValid, emptyState, openedState}
-use Rattle.board.specs.Calls.{reply, openCases, opening, uploadCases, starting, bitmapUpload, bitmapWrite}
-use Rattle.board.specs.History.{Call, Event, numberGiven, isAccepted, givenBy, outOf, Called, callOn, eventsOf}
-use Rattle.board.specs.Chains.{Parts, Chain}
+use Rattle.board.specs.Calls.{reply, openCases, opening, uploadCases, fillBegin, starting, bitmapUpload, bitmapWrite}
+use Rattle.board.specs.History.{Call, feedFill, finishFill, cancelFill, Event, numberGiven, isAccepted, givenBy, outOf, Called, callOn, eventsOf, memoryAfter}
+use Rattle.board.specs.Chains.{Parts, Chain, finished, more}
 use Rattle.board.specs.declared.State.{State}
 use Rattle.board.specs.declared.Reply.{Reply}
-use Rattle.board.proofs.Tied.{Open, Start, UploadBitmap, WriteBitmap, startParts, bitmapParts, writeParts, startedSlot, startedTick, uploadedSlot, uploadedFile, writtenSlot, openedFile, openedSlots, openedMemory, lentMemory, Step, kept, callsOf, listed}
+use Rattle.board.proofs.Tied.{Open, BeginFill, Start, UploadBitmap, WriteBitmap, beginParts, begunSlot, startParts, bitmapParts, writeParts, startedSlot, startedTick, uploadedSlot, uploadedFile, writtenSlot, openedFile, openedSlots, openedMemory, lentMemory, Step, kept, callsOf, listed}
 use Rattle.theorems.specs.Order.{Thing, thingsOfRun, thingsIn}
 use Rattle.theorems.specs.Progress.{AllGo, noTurns, stateAfter, handOuts}
 use Rattle.theorems.specs.Timing.{noRun, aRun, watchAtStart, AllTimely}
 use Rattle.theorems.specs.Past.{observedIn}
 use Rattle.theorems.specs.Frames.{runPut, wasDone, Shows}
-use Rattle.theorems.specs.Copies.{fileLeft, IsBytes, Carried}
-use Rattle.theorems.specs.Refusals.{Unchanged}
-use Rattle.theorems.proofs.Refusals.{refused-same}
+use Rattle.bitmap_prefix.specs.Meaning.{AreBytes}
+use Rattle.theorems.specs.Copies.{fileLeft, Carried}
+use Rattle.theorems.specs.Fills as spec
+use Rattle.theorems.specs.Fills.{sentBy, allKeepFilling, calledAfter, SlotAfter, whitePicture, begins, good, pictureIn, next, Earns4, Begun}
+use Rattle.theorems.specs.Refusals.{Unchanged, breaksFill, FillBroken}
+use Rattle.theorems.proofs.Refusals.{refused-same, fill-broken}
 use Rattle.theorems.proofs.Invalid.{invalid-refused}
 use Rattle.theorems.proofs.Kept.{valid-kept, opened-valid}
 use Rattle.theorems.proofs.Progress.{run-in-order}
 use Rattle.theorems.proofs.Ends.{all-done}
 use Rattle.theorems.proofs.Timing.{history-on-time, run-keeps-time, state-on-time}
 use Rattle.theorems.proofs.Frames.{equal-frames}
+use Rattle.theorems.proofs.Fills.{state-append, memory-append, fills-hold, bad-files-earn-4, fills-as-whole}
 use Rattle.theorems.proofs.RoundTrips.{upload-write, upload-normal, file-carries}
 
 -- ---- one call
@@ -58,9 +62,10 @@ refused-opening file n lent =
     (λ number e f. refl)
     (λ free f. absurd (eqb-false 0 0 f refl))
 
--- a call or an opening that was refused changed nothing
+-- a call or an opening that was refused changed nothing, but where 4 broke a fill off
 pub record RefusedSame : Type 0 where
-  pub calls : {p : Parts} → Step p → isAccepted (givenBy (p .left .seen)) ≡ false → Unchanged (p .state) (p .memory) (p .call) (p .left)
+  pub calls : {p : Parts} → Step p → isAccepted (givenBy (p .left .seen)) ≡ false
+      → breaksFill (p .call) (numberGiven (givenBy (p .left .seen))) ≡ false → Unchanged (p .state) (p .memory) (p .call) (p .left)
   pub openings : (o : Open) → eqb (o .result .number) 0 ≡ false → RefusedOpening o
 
 pub refused-same-tied : RefusedSame
@@ -68,7 +73,10 @@ refused-same-tied =
     record {
       calls =
           λ {p} step.
-          by-contract step (λ (c : Called). isAccepted (givenBy (c .seen)) ≡ false → Unchanged (p .state) (p .memory) (p .call) c)
+          by-contract step
+          (λ (c : Called).
+          isAccepted (givenBy (c .seen)) ≡ false → breaksFill (p .call) (numberGiven (givenBy (c .seen))) ≡ false
+          → Unchanged (p .state) (p .memory) (p .call) c)
           (refused-same (p .state) (p .memory) (p .call));
       openings =
           λ o refused.
@@ -79,6 +87,14 @@ refused-same-tied =
           let is = o .promised ∙ refused-opening file n lent (ap (λ (k : ℕ). eqb k 0) (sym number) ∙ refused) in
           record { empty = ap (λ (r : Reply × List ℕ). r .0 .state) is; memory-same = ap (λ (r : Reply × List ℕ). r .1) is };
     }
+
+-- a call that broke a fill off left none, and its slot white
+pub fill-broken-tied : {p : Parts} → Step p → breaksFill (p .call) (numberGiven (givenBy (p .left .seen))) ≡ true
+    → FillBroken (p .state) (p .memory) (p .call) (p .left)
+fill-broken-tied {p} step =
+    by-contract step
+    (λ (c : Called). breaksFill (p .call) (numberGiven (givenBy (c .seen))) ≡ true → FillBroken (p .state) (p .memory) (p .call) c)
+    (fill-broken (p .state) (p .memory) (p .call))
 
 -- what was accepted left a valid state
 pub valid-kept-tied : {p : Parts} → Step p → isAccepted (givenBy (p .left .seen)) ≡ true → stateValid (p .left .state) ≡ true
@@ -186,7 +202,7 @@ module _ (c : Start) (accepted : c .result .number ≡ 0) {events : List Event} 
 -- ---- bitmap files
 
 -- what the writer made of a slot, uploaded to a slot of any store of that panel, is there
-pub file-carries-tied : (w : WriteBitmap) (c : UploadBitmap) → IsBytes (writeParts w .memory) → w .result .number ≡ 0
+pub file-carries-tied : (w : WriteBitmap) (c : UploadBitmap) → AreBytes (writeParts w .memory) → w .result .number ≡ 0
     → panelOf (fileOf (bitmapParts c .state)) ≡ panelOf (fileOf (writeParts w .state))
     → uploadedFile c ≡ fileLeft (sizesOf (writeParts w .state)) (writeParts w .left .out)
     → firstOf (uploadCases (bitmapParts c .state) (length (bitmapParts c .memory)) (uploadedSlot c)) (λ n. n) 0 ≡ 0
@@ -223,7 +239,7 @@ upload-same : {s t : State} {m n : List ℕ} {i j : ℕ} {file bitmap : List ℕ
 upload-same e f g q = cc
 
 -- a file that was uploaded is written in its normal form
-pub upload-write-tied : (c : UploadBitmap) (w : WriteBitmap) → IsBytes (uploadedFile c) → c .result .number ≡ 0
+pub upload-write-tied : (c : UploadBitmap) (w : WriteBitmap) → AreBytes (uploadedFile c) → c .result .number ≡ 0
     → writeParts w .state ≡ c .result .state → writeParts w .memory ≡ bitmapParts c .left .memory → writtenSlot w ≡ uploadedSlot c
     → fileLength (rowsIn (fileOf (bitmapParts c .state))) (strideIn (fileOf (bitmapParts c .state))) ≤ length (outOf (writeParts w .call))
     → _≡_ {A = Reply × List ℕ} (w .result, writeParts w .left .out)
@@ -245,3 +261,160 @@ pub upload-normal-tied : (c d : UploadBitmap) → c .result .number ≡ 0 → bi
 upload-normal-tied c d accepted same-state same-memory same-slot normal =
     let trip = upload-normal (bitmapParts c .state) (bitmapParts c .memory) (uploadedSlot c) (uploadedFile c) (accepted-upload c accepted) in
     d .promised ∙ upload-same same-state same-memory same-slot normal ∙ trip ∙ sym (c .promised)
+
+-- ---- fills
+
+-- the events of a list of calls, from some call on
+events-from : (s : State) (m : List ℕ) (calls rest : List Call)
+    → drop (length calls) (eventsOf s m (calls ++ rest)) ≡ eventsOf (stateAfter s m calls) (memoryAfter s m calls) rest
+events-from s m [] rest = refl
+events-from s m (call ∷ calls) rest = events-from (callOn s m call .state) (callOn s m call .memory) calls rest
+
+-- chunks neither finish nor cancel
+all-chunks : (chunks : List (List ℕ)) → allKeepFilling (map feedFill chunks) ≡ true
+all-chunks [] = refl
+all-chunks (chunk ∷ chunks) = all-chunks chunks
+
+-- the state that a chain of calls leaves
+abbrev pub endOf : {s : State} {m : List ℕ} {events : List Event} {u : List ℕ} → Chain Step s m events u → State
+endOf {s} finished = s
+endOf (more step rest) = endOf rest
+
+-- is that of its list of calls
+ended-so : {s : State} {m : List ℕ} {events : List Event} {u : List ℕ} (chain : Chain Step s m events u)
+    → endOf chain ≡ stateAfter s m (callsOf chain)
+ended-so finished = refl
+ended-so (more {p = p} step rest) =
+    ended-so rest ∙ ap (λ (c : Called). stateAfter (c .state) (c .memory) (callsOf rest)) (kept step)
+
+-- a call on what a chain of calls left
+pub record After {s : State} {m : List ℕ} {events : List Event} {u : List ℕ} (chain : Chain Step s m events u) (p : Parts) : Type 0 where
+  pub state-is : p .state ≡ endOf chain
+  pub memory-is : p .memory ≡ u
+
+-- left what it does on what the list of calls leaves
+after-list : {s : State} {m : List ℕ} {events : List Event} {u : List ℕ} (chain : Chain Step s m events u) {p : Parts} → Step p
+    → After chain p → p .left ≡ calledAfter s m (callsOf chain) (p .call)
+after-list {s} {m} chain {p} step at =
+    kept step
+    ∙ ap (λ (q : State). callOn q (p .memory) (p .call)) (at .state-is ∙ ended-so chain)
+    ∙ ap (λ (l : List ℕ). callOn (stateAfter s m (callsOf chain)) l (p .call)) (at .memory-is ∙ sym (listed chain .left))
+
+module _ (c : BeginFill) (accepted : c .result .number ≡ 0) (memory-bytes : AreBytes (beginParts c .memory)) {events : List Event} {u : List ℕ}
+    (chain : Chain Step (c .result .state) (beginParts c .memory) events u)
+    (sent-bytes : AreBytes (sentBy (callsOf chain))) (unended : allKeepFilling (callsOf chain) ≡ true) where
+  abbrev before : State
+  before = beginParts c .state
+
+  abbrev lent : List ℕ
+  lent = beginParts c .memory
+
+  abbrev made : List Call
+  made = callsOf chain
+
+  abbrev sent : List ℕ
+  sent = sentBy made
+
+  is-begun : Begun before lent (begunSlot c) made
+  is-begun =
+      record {
+        accepted = ap (λ (r : Reply). r .number) (sym (c .promised)) ∙ accepted;
+        memory-bytes = memory-bytes;
+        sent-bytes = sent-bytes;
+        unended = unended;
+      }
+
+  since-begin : (P : State → Type 0) → P (fillBegin before (length lent) (begunSlot c) .state) → P (c .result .state)
+  since-begin P = subst (λ (r : Reply). P (r .state)) (sym (c .promised))
+
+  -- what holds of a call on what the begin and the chain leave holds of what such a call left
+  of-next : {p : Parts} → Step p → After chain p → (P : Called → Type 0) → {call : Call} → p .call ≡ call
+      → P (next before lent (begunSlot c) made call) → P (p .left)
+  of-next {p} step at P {call} is holds =
+      subst P (sym (after-list chain step at ∙ ap (calledAfter (c .result .state) lent made) is))
+      (since-begin (λ (s : State). P (calledAfter s lent made call)) holds)
+
+  -- a call after the begin and the chain: taken, refused, finished or cancelled as the bytes that the chain sent say
+  pub record FilledTied : Type 0 where
+    pub taken : {p : Parts} → Step p → After chain p → (chunk : List ℕ) → p .call ≡ feedFill chunk → AreBytes chunk
+        → begins before (sent ++ chunk) ≡ true → numberGiven (givenBy (p .left .seen)) ≡ 0
+    pub refused : {p : Parts} → Step p → After chain p → (chunk : List ℕ) → p .call ≡ feedFill chunk → AreBytes chunk
+        → begins before sent ≡ true → begins before (sent ++ chunk) ≡ false → SlotAfter before (begunSlot c) 4 (whitePicture before) (p .left)
+    pub finished : {p : Parts} → Step p → After chain p → p .call ≡ finishFill → good before sent ≡ true
+        → SlotAfter before (begunSlot c) 0 (pictureIn before sent) (p .left)
+    pub cut-short : {p : Parts} → Step p → After chain p → p .call ≡ finishFill → begins before sent ≡ true → good before sent ≡ false
+        → SlotAfter before (begunSlot c) 4 (whitePicture before) (p .left)
+    pub cancelled : {p : Parts} → Step p → After chain p → p .call ≡ cancelFill → begins before sent ≡ true
+        → SlotAfter before (begunSlot c) 0 (whitePicture before) (p .left)
+
+  pub fills-hold-tied : FilledTied
+  fills-hold-tied =
+      let f = fills-hold before lent (begunSlot c) made is-begun in
+      record {
+        taken = λ step at chunk is new e. of-next step at (λ q. numberGiven (givenBy (q .seen)) ≡ 0) is (f .taken chunk new e);
+        refused = λ step at chunk is new e g. of-next step at (SlotAfter before (begunSlot c) 4 (whitePicture before)) is (f .refused chunk new e g);
+        finished = λ step at is e. of-next step at (SlotAfter before (begunSlot c) 0 (pictureIn before sent)) is (f .finished e);
+        cut-short = λ step at is e g. of-next step at (SlotAfter before (begunSlot c) 4 (whitePicture before)) is (f .cut-short e g);
+        cancelled = λ step at is e. of-next step at (SlotAfter before (begunSlot c) 0 (whitePicture before)) is (f .cancelled e);
+      }
+
+  -- a file that is not good: the event of the first chunk after which the bytes so far begin no good file has 4, or finish gives it
+  pub data Earned4 : Type 0 where
+    from-chunk : (front : List Call) (chunk : List ℕ) (rest : List Call) → made ≡ front ++ (feedFill chunk ∷ rest)
+        → begins before (sentBy front) ≡ true → begins before (sentBy front ++ chunk) ≡ false
+        → (e : Event) (later : List Event) → drop (length front) events ≡ e ∷ later → numberGiven (givenBy e) ≡ 4 → Earned4
+    from-finish : begins before sent ≡ true
+        → ((p : Parts) → Step p → After chain p → p .call ≡ finishFill → numberGiven (givenBy (p .left .seen)) ≡ 4) → Earned4
+
+  pub bad-files-earn-4-tied : good before sent ≡ false → Earned4
+  bad-files-earn-4-tied bad = by-place (bad-files-earn-4 before lent (begunSlot c) made is-begun bad)
+    where
+      by-place : Earns4 before lent (begunSlot c) made → Earned4
+      by-place (spec.from-chunk front chunk rest is e g left) =
+          let from : State = c .result .state in
+          let late : drop (length front) events
+          ≡ calledAfter from lent front (feedFill chunk) .seen
+          ∷ eventsOf (calledAfter from lent front (feedFill chunk) .state) (calledAfter from lent front (feedFill chunk) .memory) rest =
+          ap (drop (length front)) (sym (listed chain .seen) ∙ ap (eventsOf from lent) is)
+          ∙ events-from from lent front (feedFill chunk ∷ rest) in
+          from-chunk front chunk rest is e g _ _ late
+          (since-begin (λ (s : State). numberGiven (givenBy (calledAfter s lent front (feedFill chunk) .seen)) ≡ 4) (left .answers))
+      by-place (spec.from-finish e left) =
+          from-finish e (λ p step at is. of-next step at (λ q. numberGiven (givenBy (q .seen)) ≡ 4) is (left .answers))
+
+-- with no other call between: the state and the memory that such a fill leaves are those of the whole upload's contract
+pub fills-as-whole-tied : (c : BeginFill) → c .result .number ≡ 0 → AreBytes (beginParts c .memory) → {events : List Event} {u : List ℕ}
+    → (chain : Chain Step (c .result .state) (beginParts c .memory) events u) (chunks : List (List ℕ)) → callsOf chain ≡ map feedFill chunks
+    → AreBytes (sentBy (map feedFill chunks)) → {p : Parts} → Step p → After chain p → p .call ≡ finishFill
+    → (w : UploadBitmap) → bitmapParts w .state ≡ beginParts c .state → bitmapParts w .memory ≡ beginParts c .memory
+    → uploadedSlot w ≡ begunSlot c → uploadedFile w ≡ sentBy (map feedFill chunks)
+    → good (beginParts c .state) (sentBy (map feedFill chunks)) ≡ true
+    → (p .left .state ≡ bitmapParts w .left .state) × (p .left .memory ≡ bitmapParts w .left .memory)
+fills-as-whole-tied c accepted memory-bytes chain chunks are sent-bytes {p} step at is w same-state same-memory same-slot same-file fine =
+    let s : State = beginParts c .state in
+    let m : List ℕ = beginParts c .memory in
+    let b : Begun s m (begunSlot c) (map feedFill chunks) =
+    record {
+      accepted = ap (λ (r : Reply). r .number) (sym (c .promised)) ∙ accepted;
+      memory-bytes = memory-bytes;
+      sent-bytes = sent-bytes;
+      unended = all-chunks chunks;
+    } in
+    let whole = fills-as-whole s m (begunSlot c) chunks b fine in
+    let from : State = fillBegin s (length m) (begunSlot c) .state in
+    let last : p .left ≡ calledAfter from m (map feedFill chunks) finishFill =
+    after-list chain step at
+    ∙ ap (calledAfter (c .result .state) m (callsOf chain)) is
+    ∙ ap (λ (l : List Call). calledAfter (c .result .state) m l finishFill) are
+    ∙ ap (λ (r : Reply). calledAfter (r .state) m (map feedFill chunks) finishFill) (c .promised) in
+    let upload : bitmapUpload s m (begunSlot c) (sentBy (map feedFill chunks)) ≡ (w .result, bitmapParts w .left .memory) =
+    upload-same (sym same-state) (sym same-memory) (sym same-slot) (sym same-file) ∙ sym (w .promised) in (
+      ap (λ (q : Called). q .state) last
+          ∙ sym (state-append from m (map feedFill chunks) (finishFill ∷ []))
+          ∙ whole .0
+          ∙ ap (λ (r : Reply × List ℕ). r .0 .state) upload,
+      ap (λ (q : Called). q .memory) last
+          ∙ sym (memory-append from m (map feedFill chunks) (finishFill ∷ []))
+          ∙ whole .1
+          ∙ ap (λ (r : Reply × List ℕ). r .1) upload,
+    )

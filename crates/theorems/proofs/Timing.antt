@@ -26,6 +26,7 @@ use Rattle.board.specs.declared.Reply.{Reply}
 use Rattle.board.proofs.States.{valid-state, run-of}
 use Rattle.board.proofs.Effects as effects
 use Rattle.board.proofs.Effects.{Effect, At, leaving, polledTo, effect}
+use Rattle.board.proofs.Filled.{fills-apart}
 use Rattle.board.proofs.Opening.{opened, opened-file}
 use Rattle.theorems.specs.Timing.{Observed, noRun, aRun, watchAtStart, observedBy, observedAfter, TimelyBy, Timely, AllTimely, none, more, RunOnTime, HistoryOnTime}
 use Rattle.theorems.specs.Past.{StateOnTime, watchOf, observedIn}
@@ -100,6 +101,9 @@ module _ (state : State) (memory : List ℕ) (valid : stateValid state ≡ true)
       }
   effect-on (effects.reads call out′ e t) = apart call e memory out′
   effect-on (effects.draws call slot picture e t may long) = apart call e _ _
+  effect-on (effects.begins slot t may) = record { file-kept = refl; timely = refl; follows = refl }
+  effect-on (effects.fills call act kind t is) =
+      record { file-kept = refl; timely = rw (fills-apart kind) refl; follows = rw (fills-apart kind) refl }
   effect-on (effects.starts slot tick t may) = record { file-kept = refl; timely = refl; follows = refl }
   effect-on (effects.abandons t is) = record { file-kept = refl; timely = refl; follows = refl }
   effect-on (effects.waits tick out run moment at before) =

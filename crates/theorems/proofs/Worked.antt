@@ -24,6 +24,8 @@ use Rattle.bitmap.specs.Header.{fileLength}
 use Rattle.balance.specs.Sums.{sumOf}
 use Rattle.run.specs.Clock.{stepFrom, clockRefused}
 use Rattle.run.specs.Due.{dueOf}
+use Rattle.bitmap_prefix.specs.Begins.{headerBegins}
+use Rattle.fill.specs.Conditions.{fillValid}
 use Rattle.run.specs.Conditions.{runValid}
 use Rattle.run.specs.declared.Tick.{Tick}
 use Rattle.poll.specs.Poll.{pollAt, pollRun}
@@ -98,7 +100,7 @@ pub record WorkedByHand : Type 0 where
   pub step-back : pollNumber 5 (5 + 2147483648) ≡ 10
 
 pub worked-by-hand : WorkedByHand
-unfolding line evenByte oddByte scanByte codeBy rowDot handedLine sumOf pushed dotBits scanBits pushOf regionUpload stateValid settingsGood stepOf writeOf waitOf requiredData dataLength channelData gateSourceLevel withRegion withPicture withBytes slotPicture slotBytes pictureOf rawOf overdrawn draw over dot regionGood payloadGood stepFrom clockRefused polled pollRun pollAt dueOf runValid starting
+unfolding line evenByte oddByte scanByte codeBy rowDot handedLine sumOf pushed dotBits scanBits pushOf regionUpload stateValid settingsGood stepOf writeOf waitOf requiredData dataLength channelData gateSourceLevel withRegion withPicture withBytes slotPicture slotBytes pictureOf rawOf overdrawn draw over dot regionGood payloadGood stepFrom clockRefused polled pollRun pollAt dueOf runValid fillValid headerBegins starting
 worked-by-hand =
     record {
       line-b4 = refl;

@@ -13,12 +13,12 @@ use Rattle.board.specs.declared.Reply.{Reply}
 use Rattle.board.specs.Calls.{opening, bitmapUpload, starting, Polling, polled}
 use Rattle.update_loop.specs.Loop.{Showing, showing, tickOf, enough, indexAfter, goOn, afterPoll, pollOf, ended, shown, slotShown, bitmapStored}
 
-module _ (bus : List ℕ) (at n : ℕ) where
-  -- where the bus ends earlier, and where it does not
-  pub index-at-end : length bus < at + n → length bus ≡ indexAfter bus at n
+module _ (bytes : List ℕ) (at n : ℕ) where
+  -- where the bytes end earlier, and where they do not
+  pub index-at-end : length bytes < at + n → length bytes ≡ indexAfter bytes at n
   index-at-end short = rw lt-leb
 
-  pub index-within : at + n ≤ length bus → at + n ≡ indexAfter bus at n
+  pub index-within : at + n ≤ length bytes → at + n ≡ indexAfter bytes at n
   index-within room = rw le-leb
 
 -- the start, and the end with no poll left

@@ -1,10 +1,10 @@
--- What the loop of `show` and the three calls that are exported answer and leave, on any input. They make calls on a store one after
+-- What the loop of `show` and the calls that are exported answer and leave, on any input. They make calls on a store one after
 -- another, each on the state and the memory that the one before left. The bus and the clock are simulated: what a poll puts out stands
 -- on the bus, one thing after another, and a wait moves the tick.
 -- Assumes nothing.
-use Prim.Native.Nat.{ℕ, zero, suc, _+_, _%_, _^_}
+use Prim.Native.Nat.{ℕ, zero, suc, _+_, _-_, _/_, _%_, _^_}
 use mathlib.Core.Bool.{cond}
-use mathlib.Core.List.{List, _++_}
+use mathlib.Core.List.{List, [], _∷_, _++_}
 use lib.Dec.{leb}
 use lib.ListN.{length, take, drop}
 use Rattle.run.specs.declared.Tick.{Tick}
@@ -12,7 +12,7 @@ use Rattle.poll.specs.declared.Answer.{Answer}
 use Rattle.poll.specs.declared.Answer.the-variants.{Refused, Write, Line, Wait, Done}
 use Rattle.board.specs.declared.State.{State}
 use Rattle.board.specs.declared.Reply.{Reply}
-use Rattle.board.specs.Calls.{opening, regionUpload, bitmapUpload, starting, Polling, polled}
+use Rattle.board.specs.Calls.{opening, regionUpload, bitmapUpload, fillBegin, fillFeed, fillFinish, starting, Polling, polled}
 
 -- the most polls that the loop makes: more than any run takes
 abbrev pub enough : ℕ
@@ -32,9 +32,9 @@ pub record Showing : Type 0 where
 abbrev pub showing : (state : State) (tick : ℕ) (memory bus : List ℕ) (at : ℕ) → Showing
 showing state tick memory bus at = record { state = state; tick = tick; memory = memory; bus = bus; at = at }
 
--- the index n bytes after `at`, or the length of the bus where that is less
-abbrev pub indexAfter : (bus : List ℕ) (at n : ℕ) → ℕ
-indexAfter bus at n = cond (leb (at + n) (length bus)) (at + n) (length bus)
+-- the index n bytes after `at`, or the end of the bytes where that is less
+abbrev pub indexAfter : (bytes : List ℕ) (at n : ℕ) → ℕ
+indexAfter bytes at n = cond (leb (at + n) (length bytes)) (at + n) (length bytes)
 
 -- n bytes more have gone to the panel
 abbrev pub sent : (n : ℕ) → Showing → Showing
@@ -75,7 +75,29 @@ shown (suc left) s = goOn (shown left) (afterPoll s (pollOf s)) (pollOf s .answe
 abbrev pub slotShown : (state : State) (memory bus : List ℕ) → Update
 slotShown state memory bus = shown enough (showing (starting state (length memory) 1 (tickOf 0) .state) 0 memory bus 0)
 
--- ---- what is exported: a store of slots 0 and 1 is opened, a bitmap or a region is uploaded to slot 1
+-- ---- a file in chunks
+
+-- how many chunks of `size` bytes n bytes make, of which the last may be shorter; a number over 0 is 0, so with a size of 0 none
+abbrev pub chunkCount : (size n : ℕ) → ℕ
+chunkCount size n = (n + (size - 1)) / size
+
+-- the first chunks of a file, and all of them
+unfoldable pub firstChunks : (count size : ℕ) (file : List ℕ) → List (List ℕ)
+firstChunks zero size file = []
+firstChunks (suc count) size file = take size file ∷ firstChunks count size (drop size file)
+
+abbrev pub chunksOf : (size : ℕ) (file : List ℕ) → List (List ℕ)
+chunksOf size file = firstChunks (chunkCount size (length file)) size file
+
+-- chunks are fed one after another, whatever each call answers
+unfoldable pub fedAll : (chunks : List (List ℕ)) (state : State) (memory : List ℕ) → State × List ℕ
+fedAll [] state memory = (state, memory)
+fedAll (chunk ∷ chunks) state memory =
+    let fed = fillFeed state memory chunk in
+    fedAll chunks (fed .0 .state) (fed .1)
+
+-- ---- what is exported: a store of slots 0 and 1 is opened, a bitmap or a region is uploaded to slot 1, or a fill of it is begun, fed
+-- and finished
 
 abbrev pub bitmapStored : (settings bitmap memory : List ℕ) → Reply × List ℕ
 bitmapStored settings bitmap memory =
@@ -87,9 +109,16 @@ regionStored settings x y width height payload memory =
     let opened = opening settings 1 memory in
     regionUpload (opened .0 .state) (opened .1) 1 x y width height payload
 
--- `store_bitmap` and `store_region` answer the number of the upload
+abbrev pub fillStored : (settings bitmap : List ℕ) (size : ℕ) (memory : List ℕ) → Reply × List ℕ
+fillStored settings bitmap size memory =
+    let opened = opening settings 1 memory in
+    let begun = fillBegin (opened .0 .state) (length (opened .1)) 1 in
+    let fed = fedAll (chunksOf size bitmap) (begun .state) (opened .1) in
+    fillFinish (fed .0) (fed .1)
+
+-- these and `store_opening` answer the number of the last call
 abbrev pub numbered : Reply × List ℕ → ℕ × List ℕ
-numbered uploaded = (uploaded .0 .number, uploaded .1)
+numbered last = (last .0 .number, last .1)
 
 -- `store_update` shows the bitmap
 abbrev pub updated : (settings bitmap memory bus : List ℕ) → Update

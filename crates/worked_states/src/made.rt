@@ -1,5 +1,5 @@
-// States that a caller made up: at the end of passed time, and for each condition of STATE.md some that break only it
-// (`condition`) and some that just keep it (`kept`).
+// States that a caller made up: at the end of passed time, and for each condition of STATE.md on the settings file, the slots and a
+// run some that break only it (`condition`) and some that just keep it (`kept`).
 use crate::rooms;
 use crate::tell;
 use board::State;
@@ -42,7 +42,7 @@ const FILE: [u8; 26] = [
 ];
 
 // A run with the last tick 0.
-fn run(slot: u32, first: u64, handed: u64, passed: u64, next: Position) -> Run {
+pub fn run(slot: u32, first: u64, handed: u64, passed: u64, next: Position) -> Run {
     Run {
         slot,
         last: Tick(0),
@@ -53,18 +53,21 @@ fn run(slot: u32, first: u64, handed: u64, passed: u64, next: Position) -> Run {
     }
 }
 
-fn line(stage: u32, frame: u32, row: u32) -> Position {
+pub fn line(stage: u32, frame: u32, row: u32) -> Position {
     Position::Line { stage, frame, row }
 }
 
 // The state with another run, length of its file, or last slot.
-fn with_run(state: State, run: Run) -> State {
+pub fn with_run(state: State, run: Run) -> State {
     let settings = state.settings;
+    let store = state.store;
+    let fill = store.fill;
     State {
         settings,
         store: Store {
-            slots: state.store.slots,
+            slots: store.slots,
             phase: Phase::Running(run),
+            fill,
         },
     }
 }
@@ -79,13 +82,14 @@ fn with_len(state: State, len: usize) -> State {
     }
 }
 
-fn with_slots(state: State, slots: u32) -> State {
+pub fn with_slots(state: State, slots: u32) -> State {
     let settings = state.settings;
     let store = state.store;
     let phase = store.phase;
+    let fill = store.fill;
     State {
         settings,
-        store: Store { slots, phase },
+        store: Store { slots, phase, fill },
     }
 }
 
@@ -111,21 +115,30 @@ fn ask(words: &[u8], state: State, tick: u32) -> State {
     tell::poll(words, state, tick, &mut memory, &mut out)
 }
 
-// The same of a made-up run, at its last tick: one that breaks a condition, and one that just keeps it.
-fn broken(letter: &[u8], state: State, run: Run) {
+// The same at tick 0 of a state that breaks a condition, and of one that just keeps it.
+pub fn breaks(letter: &[u8], state: State) {
     tell::text(b"condition ");
     tell::text(letter);
-    ask(b": ", with_run(state, run), 0);
+    ask(b": ", state, 0);
+}
+
+pub fn keeps(letter: &[u8], state: State) {
+    tell::text(b"kept ");
+    tell::text(letter);
+    ask(b": ", state, 0);
+}
+
+// The same of a made-up run, at its last tick.
+fn broken(letter: &[u8], state: State, run: Run) {
+    breaks(letter, with_run(state, run));
 }
 
 fn kept(letter: &[u8], state: State, run: Run) {
-    tell::text(b"kept ");
-    tell::text(letter);
-    ask(b": ", with_run(state, run), 0);
+    keeps(letter, with_run(state, run));
 }
 
 // A store with no run, of slots 0 and 1.
-fn opened() -> State {
+pub fn opened() -> State {
     let mut memory = rooms::memory();
     let file = FILE;
     let reply = board::open(&file, 1, &mut memory);
@@ -182,15 +195,15 @@ fn last_first(state: State) {
 
 // (a) and (b), of a store with no run, which is refused by 9 where it keeps them. With n = 7 the memory is too short, which is 1.
 fn store(state: State) {
-    ask(b"condition a: ", with_len(state, 638), 0);
-    ask(b"condition a: ", with_len(state, 25), 0);
-    ask(b"condition a: ", with_len(state, 27), 0);
-    ask(b"condition a: ", with_bad_panel(state), 0);
-    ask(b"kept a: ", with_len(state, 26), 0);
-    ask(b"condition b: ", with_slots(state, 0), 0);
-    ask(b"condition b: ", with_slots(state, 8), 0);
-    ask(b"kept b: ", with_slots(state, 1), 0);
-    ask(b"kept b: ", with_slots(state, 7), 0);
+    breaks(b"a", with_len(state, 638));
+    breaks(b"a", with_len(state, 25));
+    breaks(b"a", with_len(state, 27));
+    breaks(b"a", with_bad_panel(state));
+    keeps(b"a", with_len(state, 26));
+    breaks(b"b", with_slots(state, 0));
+    breaks(b"b", with_slots(state, 8));
+    keeps(b"b", with_slots(state, 1));
+    keeps(b"b", with_slots(state, 7));
 }
 
 // (c) and (d), of a run anywhere.

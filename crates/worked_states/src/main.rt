@@ -1,4 +1,5 @@
 // Runs the worked examples of document 01 that are about time, then states that a caller made up, and prints a line for each.
+mod fills;
 mod made;
 mod rooms;
 mod tell;
@@ -7,4 +8,5 @@ mod time;
 fn main() {
     time::examples();
     made::examples();
+    fills::examples();
 }

@@ -116,11 +116,24 @@ fn behind_first(n: u32, memory: &mut [u8], out: &mut [u8]) -> State {
     tell_lines(b"lines at F: ", state, n, FIRST, memory, out)
 }
 
+// Polls before a frame is due, and when it is.
+fn poll_twice(
+    state: State,
+    before: &[u8],
+    early: u32,
+    then: &[u8],
+    due: u32,
+    memory: &mut [u8],
+    out: &mut [u8],
+) {
+    let waiting = tell::poll(before, state, early, memory, out);
+    tell::poll(then, waiting, due, memory, out);
+}
+
 // With frame 0 out at F, a poll at 10 answers wait 14, and frame 1 begins at 24.
 fn poll_frame_1(memory: &mut [u8], out: &mut [u8]) {
     let state = behind_first(FRAME, memory, out);
-    let waiting = tell::poll(b"poll at 10: ", state, 10, memory, out);
-    tell::poll(b"poll at 24: ", waiting, 24, memory, out);
+    poll_twice(state, b"poll at 10: ", 10, b"poll at 24: ", 24, memory, out);
 }
 
 // A run whose frame 0 has its last line at 40.
@@ -138,8 +151,15 @@ fn late_frame_1(memory: &mut [u8], out: &mut [u8]) -> State {
 // After that frame 2 goes from 54, not 70.
 fn poll_frame_2(memory: &mut [u8], out: &mut [u8]) {
     let state = late_frame_1(memory, out);
-    let waiting = tell::poll(b"frame 2, at 53: ", state, 53, memory, out);
-    tell::poll(b"frame 2, at 54: ", waiting, 54, memory, out);
+    poll_twice(
+        state,
+        b"frame 2, at 53: ",
+        53,
+        b"frame 2, at 54: ",
+        54,
+        memory,
+        out,
+    );
 }
 
 // ---- whole runs

@@ -1,4 +1,4 @@
--- `empty_state`: no settings and no run. Assumes nothing.
+-- `empty_state`: no settings, no run and no fill. Assumes nothing.
 use mathlib.Core.Path.{ap}
 use Rattle.settings.specs.declared.Settings.{Settings}
 use Rattle.run.specs.declared.Phase.the-variants.{Idle}
@@ -10,8 +10,11 @@ use Rattle.board.proofs.empty_state.Tie as tie
 no-settings-requires : tie.Need-no-settings-requires
 no-settings-requires c κs = search needs
 
+empty-requires : tie.Need-empty-requires
+empty-requires c κs = search needs
+
 returns : tie.Need-returns
-returns c = rw (c .no-settings .ensures)
+returns c = rw (c .before .no-settings .ensures, c .empty .ensures)
 
 pub empty-state-spec : {M : Type 1} → statement M
-empty-state-spec = tie.close (tie.spec no-settings-requires returns)
+empty-state-spec = tie.close (tie.spec no-settings-requires empty-requires returns)

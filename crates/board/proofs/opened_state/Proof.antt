@@ -1,4 +1,4 @@
--- `opened_state`: the file is kept. Assumes nothing.
+-- `opened_state`: the file is kept, and there is no fill. Assumes nothing.
 use borrow.Author.Needs.{needs}
 use Rattle.board.proofs.opened_state.Statement.{statement}
 use Rattle.board.proofs.opened_state.Tie as tie
@@ -6,8 +6,11 @@ use Rattle.board.proofs.opened_state.Tie as tie
 keep-requires : tie.Need-keep-requires
 keep-requires c κs = search needs
 
+empty-requires : tie.Need-empty-requires
+empty-requires c κs = search needs
+
 returns : tie.Need-returns
-returns c = rw (c .keep .ensures)
+returns c = rw (c .before .keep .ensures, c .empty .ensures)
 
 pub opened-state-spec : {M : Type 1} → statement M
-opened-state-spec = tie.close (tie.spec keep-requires returns)
+opened-state-spec = tie.close (tie.spec keep-requires empty-requires returns)

@@ -3,9 +3,9 @@ use mathlib.Core.Path.{sym}
 use denote.Ref.{now}
 use borrow.Author.Tests.{not-false}
 use lib.Seq.{length-take-le}
-use Rattle.lists.proofs.Rules.{refused}
+use Rattle.lists.proofs.Rules.{refused, passed}
 use Rattle.board.specs.Facts.{stateOf}
-use Rattle.board.proofs.States.{not-within, not-good, no-slots, many-slots, phase-decides}
+use Rattle.board.proofs.States.{not-within, not-good, no-slots, many-slots, not-phase, fill-decides}
 use borrow.Author.Needs.{needs}
 use Rattle.board.proofs.checks.plan_state.Statement.{statement}
 use Rattle.board.proofs.checks.plan_state.Tie as tie
@@ -55,11 +55,23 @@ returns-4 c =
 phase-valid-requires : tie.Need-phase-valid-requires
 phase-valid-requires c κs = c .before .before .before .before .before .before .before .plan-of .ensures .plan (not-false _ (c .before .before .before .before .if2 .left))
 
+no-plan-requires-5 : tie.Need-no-plan-requires-5
+no-plan-requires-5 c κs = search needs
+
 returns-5 : tie.Need-returns-5
 returns-5 c =
-    let a = c .before .before .before .before .before .before .before .before .before .before .before .before .args in
+    let a = c .before .before .before .before .before .before .before .before .before .before .before .before .before .before .args in
     let s = stateOf (now (a .file)) (a .len) (a .store) in
-    phase-decides s (c .before .before .before .before .before .before .before .before .before .before .if1 .left) (c .before .before .before .if3 .left) (c .before .if4 .left) (c .before .before .before .before .before .before .before .before .plan-of .ensures .plan (not-false _ (c .before .before .before .before .before .if2 .left))) (c .phase-valid .ensures)
+    not-phase s (c .no-plan5 .ensures) (refused (c .before .before .phase-valid .ensures) (c .before .if5 .taken))
+
+fill-valid-requires : tie.Need-fill-valid-requires
+fill-valid-requires c κs = c .before .before .before .before .before .before .before .before .before .before .plan-of .ensures .plan (not-false _ (c .before .before .before .before .before .before .before .if2 .left)) .sized
+
+returns-6 : tie.Need-returns-6
+returns-6 c =
+    let a = c .before .before .before .before .before .before .before .before .before .before .before .before .before .before .before .args in
+    let s = stateOf (now (a .file)) (a .len) (a .store) in
+    fill-decides s (c .before .before .before .before .before .before .before .before .before .before .before .before .before .if1 .left) (c .before .before .before .before .before .before .if3 .left) (c .before .before .before .before .if4 .left) (c .before .before .before .before .before .before .before .before .before .before .before .plan-of .ensures .plan (not-false _ (c .before .before .before .before .before .before .before .before .if2 .left))) (passed (c .before .before .before .phase-valid .ensures) (c .before .before .if5 .left)) (c .fill-valid .ensures)
 
 pub plan-state-spec : {M : Type 1} → statement M
 plan-state-spec =
@@ -76,4 +88,7 @@ plan-state-spec =
     no-plan-requires-4
     returns-4
     phase-valid-requires
-    returns-5)
+    no-plan-requires-5
+    returns-5
+    fill-valid-requires
+    returns-6)

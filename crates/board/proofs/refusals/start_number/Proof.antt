@@ -2,7 +2,7 @@
 use mathlib.Core.Path.{refl, ap}
 use mathlib.Core.Bool.{not}
 use lib.ListN.{take}
-use Rattle.board.specs.Calls.{startOwn}
+use Rattle.board.specs.Calls.{isFilled, startOwn}
 use Rattle.board.proofs.Numbers.{first-case, one-more}
 use borrow.Author.Needs.{needs}
 use Rattle.board.proofs.refusals.start_number.Statement.{statement}
@@ -26,13 +26,18 @@ takes-pictures-requires c κs = search needs
 or-number-requires-3 : tie.Need-or-number-requires-3
 or-number-requires-3 c κs = search needs
 
+or-number-requires-4 : tie.Need-or-number-requires-4
+or-number-requires-4 c κs = search needs
+
 returns : tie.Need-returns
 returns c =
-    let a = c .before .before .before .before .before .before .args in
+    let a = c .before .before .before .before .before .before .before .before .args in
     let own = startOwn (a .store) (a .slot) in
-    one-more (take 2 own) refl (a .before) 3
-    (one-more (take 1 own) refl (a .before) 12 (first-case (a .before) 8 (c .before .before .before .before .before .is-running .ensures) (c .before .before .before .before .or-number .ensures)) (c .before .before .before .is-abandoned .ensures) (c .before .before .or-number2 .ensures))
-    (ap not (c .before .takes-pictures .ensures)) (c .or-number3 .ensures)
+    one-more (take 3 own) refl (a .before) 15 {t = isFilled (a .store .fill) (a .slot)}
+    (one-more (take 2 own) refl (a .before) 3
+    (one-more (take 1 own) refl (a .before) 12 (first-case (a .before) 8 (c .before .before .before .before .before .before .before .is-running .ensures) (c .before .before .before .before .before .before .or-number .ensures)) (c .before .before .before .before .before .is-abandoned .ensures) (c .before .before .before .before .or-number2 .ensures))
+    (ap not (c .before .before .before .takes-pictures .ensures)) (c .before .before .or-number3 .ensures))
+    refl (c .or-number4 .ensures)
 
 pub start-number-spec : {M : Type 1} → statement M
 start-number-spec =
@@ -44,4 +49,5 @@ start-number-spec =
     or-number-requires-2
     takes-pictures-requires
     or-number-requires-3
+    or-number-requires-4
     returns)

@@ -1,10 +1,10 @@
 -- `is_runs_slot`: a run is asked for its slot.
 -- Assumes nothing.
 use mathlib.Core.Path.{sym, ap}
-use Rattle.board.specs.Calls.{isRunsSlot}
+use Rattle.board.specs.State.{isRunsSlot}
 use borrow.Author.Needs.{needs}
-use Rattle.board.proofs.refusals.is_runs_slot.Statement.{statement}
-use Rattle.board.proofs.refusals.is_runs_slot.Tie as tie
+use Rattle.board.proofs.checks.is_runs_slot.Statement.{statement}
+use Rattle.board.proofs.checks.is_runs_slot.Tie as tie
 
 enum-told : tie.Need-enum-told
 enum-told c = search needs

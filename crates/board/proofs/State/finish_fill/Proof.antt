@@ -1,0 +1,37 @@
+-- `finish_fill`, by its numbers. Assumes nothing.
+use denote.Ref.{now}
+use Rattle.board.proofs.Tests.{fill-slot}
+use Rattle.board.proofs.Replies.{finish-refused, finish-replied}
+use borrow.Author.Needs.{needs}
+use Rattle.board.proofs.State.finish_fill.Statement.{statement}
+use Rattle.board.proofs.State.finish_fill.Tie as tie
+
+check-fill-requires : tie.Need-check-fill-requires
+check-fill-requires c κs = search needs
+
+returns : tie.Need-returns
+returns c =
+    let a = c .before .before .before .before .args in
+    search (needs, finish-refused (a .self) (now (a .memory)) (c .before .before .check-fill .ensures .number-is) (c .if1 .taken))
+
+finish-slot-requires : tie.Need-finish-slot-requires
+finish-slot-requires c κs =
+    let a = c .before .before .before .before .before .before .before .args in
+    fill-slot (a .self) _ (c .before .before .before .before .before .check-fill .ensures) (c .before .before .before .if1 .left)
+
+reply-fed-requires : tie.Need-reply-fed-requires
+reply-fed-requires c κs = search needs
+
+same-length : tie.Need-same-length
+same-length c = search needs
+
+returns-2 : tie.Need-returns-2
+returns-2 c =
+    let a = c .before .before .before .before .before .before .before .before .before .before .before .args in
+    let found = c .before .before .before .before .before .before .before .before .before .check-fill .ensures in
+    let zero = c .before .before .before .before .before .before .before .if1 .left in
+    search (needs, finish-replied (a .self) (now (a .memory)) (found .number-is) zero (found .plan zero .shape-is) (c .reply-fed .ensures) (c .before .before .before .finish-slot .ensures))
+
+pub finish-fill-spec : {M : Type 1} → statement M
+finish-fill-spec =
+    tie.close (tie.spec check-fill-requires returns finish-slot-requires reply-fed-requires same-length returns-2)

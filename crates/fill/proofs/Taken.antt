@@ -1,0 +1,246 @@
+-- Laws of bytes and chunks as the code takes them, and of the conditions as it asks them.
+-- Assumes nothing.
+use mathlib.Core.Path.{_≡_, refl, sym, ap, _∙_}
+use mathlib.Core.Bool.{Bool, true, false, _&&_, and-false, and-true, and-assoc}
+use mathlib.Core.List.{List, [], _++_, append-assoc}
+use Prim.Native.Nat.{ℕ, suc, _+_, _-_, _*_, _≤_, _<_, min}
+use native.Mathlib.Nat.{add-sub-cancel-left}
+use native.Mathlib.Omega.{arith}
+use native.Mathlib.Numerals.{add-one}
+use native.Mathlib.Decide.{decLe, ℕ-discrete}
+use borrow.Author.Tests.{lt-ltb, le-ltb, le-leb, lt-leb, leb-true, eq-eqb, ne-eqb}
+use lib.Bits.{bitOr, or-zero-l, or-add-and, and-le-r}
+use lib.Dec.{eqb, leb}
+use lib.ListN.{length, getD, take, drop, replicate, length-append, length-drop, length-replicate, take-append-drop, drop-of-length-le}
+use lib.Seq.{take-all, drop-cons, drop-drop, length-take-le}
+use Rattle.lists.specs.Lists.{overlayAt}
+use Rattle.lists.proofs.Lists.{take-overlayAt, overlay-whole}
+use Rattle.lists.proofs.Parts.{part-length}
+use Rattle.lists.proofs.Rules.{and-left}
+use Rattle.bitmap.specs.Header.{headerLength, fileLength}
+use Rattle.bitmap.specs.Palettes.{paletteOf, blackAndWhite}
+use Rattle.bitmap_prefix.specs.Begins.{headerBegins}
+use Rattle.bitmap_prefix.proofs.Begins.{begins-header, begins-empty, header-same}
+use Rattle.bitmap.specs.declared.Palette.{Palette}
+use Rattle.fill.specs.Fills.{fillWith, noneKept, emptyFill, rowsCome, keptCount}
+use Rattle.fill.specs.Facts.{partLength}
+use Rattle.fill.specs.Feeding.{keeping, emptied, withRow, completed, pieceFed, bytesFed, goesOn, fed, ended, feeding, finishing}
+use Rattle.fill.specs.Conditions.{allZero, headerRule}
+use Rattle.fill.specs.declared.Fill.{Fill}
+use Rattle.fill.proofs.Pieces.{after, bytes-piece, bytes-rest}
+
+-- ---- a piece
+
+pub kept-laid : (s : ℕ) (fill : Fill) (piece : List ℕ) (at : ℕ) (kept : List ℕ) → at ≡ keptCount s (fill .came)
+    → kept ≡ overlayAt at piece (fill .kept) → fillWith (fill .slot) (fill .came + length piece) (fill .palette) kept ≡ keeping s fill piece
+kept-laid s fill piece at kept e f = rw (f, e)
+
+module _ (b h s : ℕ) (fill : Fill) (raw : List ℕ) where
+  pub header-completed : (palette : Palette) → fill .came ≡ headerLength → palette ≡ paletteOf (fill .kept)
+      → (emptied fill palette, raw) ≡ completed b h s fill raw
+  unfolding completed
+  header-completed palette e p = rw (eq-eqb (fill .came) headerLength e, p)
+
+  pub row-completed : (after : List ℕ) → (fill .came ≡ headerLength → ⊥)
+      → after ≡ withRow b h (fill .palette) (h - rowsCome s (fill .came)) (fill .kept) raw
+      → (emptied fill (fill .palette), after) ≡ completed b h s fill raw
+  unfolding completed
+  row-completed after n p = rw (ne-eqb (fill .came) headerLength n, p)
+
+module _ (b h s : ℕ) (fill : Fill) (piece raw : List ℕ) (more : Fill) (count : ℕ) (is : more ≡ keeping s fill piece)
+    (counted : count ≡ keptCount s (more .came)) where
+  pub piece-kept : (count ≡ 0 → ⊥) → (more, raw) ≡ pieceFed b h s fill raw piece
+  unfolding pieceFed
+  piece-kept n =
+      let e : (more, raw) ≡ after b h s more raw = rw (ne-eqb (keptCount s (more .came)) 0 (λ z. n (counted ∙ z))) in
+      e ∙ ap (λ (m : Fill). after b h s m raw) is
+
+  pub piece-completed : count ≡ 0 → completed b h s more raw ≡ pieceFed b h s fill raw piece
+  unfolding pieceFed
+  piece-completed z =
+      let e : completed b h s more raw ≡ after b h s more raw = rw (eq-eqb (keptCount s (more .came)) 0 (sym counted ∙ z)) in
+      e ∙ ap (λ (m : Fill). after b h s m raw) is
+
+-- ---- a chunk
+
+-- a piece of n bytes, lent as a part of the chunk, and the bytes from index i on
+pub piece-length : (i n : ℕ) (chunk : List ℕ) → i + n ≤ length chunk → length (take (i + n - i) (drop i chunk)) ≡ n
+piece-length i n chunk h = rw (add-sub-cancel-left i n) (part-length i n chunk h)
+
+rest-whole : (i : ℕ) (chunk : List ℕ) → take (length chunk - i) (drop i chunk) ≡ drop i chunk
+rest-whole i chunk = take-all (length chunk - i) (drop i chunk) (rw length-drop (omega arith))
+
+pub rest-length : (i : ℕ) (chunk : List ℕ) → length (take (length chunk - i) (drop i chunk)) ≡ length chunk - i
+rest-length i chunk = ap length (rest-whole i chunk) ∙ length-drop i chunk
+
+-- with the last byte of a header or row none is kept
+completed-parts : (b h s : ℕ) (fill : Fill) (raw : List ℕ)
+    → (completed b h s fill raw .0 .came ≡ fill .came) × (completed b h s fill raw .0 .kept ≡ noneKept)
+unfolding completed
+completed-parts b h s fill raw =
+    elim (ℕ-discrete (fill .came) headerLength) [
+      | yes e ↦ rw (eq-eqb (fill .came) headerLength e) (refl, refl)
+      | no n ↦ rw (ne-eqb (fill .came) headerLength n) (refl, refl)
+    ]
+
+-- every byte of a piece is counted
+pub piece-came : (b h s : ℕ) (fill : Fill) (raw piece : List ℕ) → pieceFed b h s fill raw piece .0 .came ≡ fill .came + length piece
+unfolding pieceFed
+piece-came b h s fill raw piece =
+    elim (ℕ-discrete (keptCount s (fill .came + length piece)) 0) [
+      | yes z ↦ rw (eq-eqb (keptCount s (fill .came + length piece)) 0 z) (completed-parts b h s (keeping s fill piece) raw .0)
+      | no n ↦ rw (ne-eqb (keptCount s (fill .came + length piece)) 0 n)
+    ]
+
+pub piece-counted : (b h s : ℕ) (chunk : List ℕ) (i n : ℕ) (fill next : Fill) (raw raw′ : List ℕ) → i + n ≤ length chunk
+    → (next, raw′) ≡ pieceFed b h s fill raw (take (i + n - i) (drop i chunk)) → next .came ≡ fill .came + n
+piece-counted b h s chunk i n fill next raw raw′ fits e =
+    ap (λ (r : Fill × List ℕ). r .0 .came) e
+    ∙ piece-came b h s fill raw (take (i + n - i) (drop i chunk))
+    ∙ ap (λ (k : ℕ). fill .came + k) (piece-length i n chunk fits)
+
+pub none-kept : (b h s : ℕ) (fill next : Fill) (raw raw′ piece : List ℕ) → (next, raw′) ≡ pieceFed b h s fill raw piece
+    → keptCount s (next .came) ≡ 0 → next .kept ≡ noneKept
+unfolding pieceFed
+none-kept b h s fill next raw raw′ piece e z =
+    let came : next .came ≡ fill .came + length piece =
+    ap (λ (r : Fill × List ℕ). r .0 .came) e ∙ piece-came b h s fill raw piece in
+    let whole : keptCount s (fill .came + length piece) ≡ 0 = ap (keptCount s) (sym came) ∙ z in
+    ap (λ (r : Fill × List ℕ). r .0 .kept) e
+    ∙ rw (eq-eqb (keptCount s (fill .came + length piece)) 0 whole) (completed-parts b h s (keeping s fill piece) raw .1)
+
+-- the two steps of a turn of the loop: the n bytes that follow are a piece
+pub piece-next : (b h s : ℕ) → 0 < s → s ≤ headerLength → (chunk : List ℕ) (i n : ℕ) (here next : Fill) (raw raw′ : List ℕ)
+    → 0 < n → i + n ≤ length chunk → length (here .kept) ≡ headerLength → keptCount s (here .came) + n ≤ partLength s (here .came)
+    → (next, raw′) ≡ pieceFed b h s here raw (take (i + n - i) (drop i chunk))
+    → bytesFed b h s (next, raw′) (drop (i + n) chunk) ≡ bytesFed b h s (here, raw) (drop i chunk)
+piece-next b h s some near chunk i n here next raw raw′ pos fits long room f =
+    let piece : List ℕ = take n (drop i chunk) in
+    let is : length piece ≡ n = part-length i n chunk fits in
+    let g : (next, raw′) ≡ pieceFed b h s here raw piece = rw (add-sub-cancel-left i n) at f in
+    let e : (next, raw′) ≡ bytesFed b h s (here, raw) piece =
+    g ∙ sym (bytes-piece b h s some near piece here raw (omega arith) long (omega arith)) in
+    rw (← drop-drop n i chunk) (bytes-rest b h s (here, raw) (next, raw′) n (drop i chunk) e)
+
+-- and the r bytes after them are whole rows
+module _ (b h s : ℕ) (chunk : List ℕ) (i r : ℕ) (here : Fill) (raw raw′ : List ℕ) (none : 0 < r → here .kept ≡ noneKept)
+    (taken : (slot : ℕ) → (fillWith slot (here .came + r) (here .palette) noneKept, raw′)
+    ≡ bytesFed b h s (fillWith slot (here .came) (here .palette) noneKept, raw) (take r (take (length chunk - i) (drop i chunk)))) where
+  abbrev moved : Fill
+  moved = fillWith (here .slot) (here .came + r) (here .palette) (here .kept)
+
+  rows-fed : (moved, raw′) ≡ bytesFed b h s (here, raw) (take r (drop i chunk))
+  rows-fed = go (ℕ-discrete r 0)
+    where
+      go : Dec (r ≡ 0) → (moved, raw′) ≡ bytesFed b h s (here, raw) (take r (drop i chunk))
+      go (yes e) =
+          let f : raw′ ≡ raw = ap (λ (t : Fill × List ℕ). t .1) (rw e at (taken 0)) in
+          let g : here .came + 0 ≡ here .came = omega arith in
+          rw (e, f, g)
+      go (no n) = rw (none (omega arith)) (rw (rest-whole i chunk) at (taken (here .slot)))
+
+  pub rows-next : bytesFed b h s (moved, raw′) (drop (i + r) chunk) ≡ bytesFed b h s (here, raw) (drop i chunk)
+  rows-next = rw (← drop-drop r i chunk) (bytes-rest b h s (here, raw) (moved, raw′) r (drop i chunk) rows-fed)
+
+-- ---- whether a chunk goes on
+
+-- the first bytes of a header that is kept, and of a chunk, as far as there is room
+pub header-goes : (b h s : ℕ) (kept chunk : List ℕ) (came n : ℕ) (out : List ℕ) → headerLength ≡ length kept → came < headerLength
+    → n ≡ min (length chunk) (headerLength - came) → out ≡ overlayAt came (take n chunk) kept
+    → headerBegins b h s (take (came + n) out) ≡ headerBegins b h s (take came kept ++ chunk)
+header-goes b h s kept chunk came n out is l e f =
+    let short : length (take n chunk) ≡ n = length-take-le n chunk (omega arith) in
+    let front : take (came + n) out ≡ take came kept ++ take n chunk =
+    rw f (take-overlayAt came kept (take n chunk) (came + n) (omega arith) (omega arith)) in
+    elim (decLe (length chunk) n) [
+      | yes q ↦ rw (front, take-all n chunk q)
+      | no q ↦
+          let long : headerLength ≤ length (take came kept ++ take n chunk) =
+          simp length-append (omega (arith, length-take-le came kept (omega arith))) in
+          let whole : take came kept ++ chunk ≡ (take came kept ++ take n chunk) ++ drop n chunk =
+          ap (λ (t : List ℕ). take came kept ++ t) (sym (take-append-drop n chunk))
+          ∙ sym (append-assoc (take came kept) (take n chunk) (drop n chunk)) in
+          rw (front, whole) (sym (header-same (take came kept ++ take n chunk) (drop n chunk) long b h s))
+    ]
+
+module _ (b h s : ℕ) (fill : Fill) (chunk : List ℕ) where
+  pub goes-far : fileLength h s < fill .came + length chunk → false ≡ goesOn b h s fill chunk
+  unfolding goesOn
+  goes-far l = rw (lt-leb (fill .came + length chunk) (fileLength h s) l)
+
+  module _ (fits : fill .came + length chunk ≤ fileLength h s) where
+    pub goes-rows : headerLength ≤ fill .came → true ≡ goesOn b h s fill chunk
+    unfolding goesOn
+    goes-rows l = rw (le-leb (fill .came + length chunk) (fileLength h s) fits, le-leb headerLength (fill .came) l)
+
+    pub goes-header : fill .came < headerLength → headerBegins b h s (take (fill .came) (fill .kept) ++ chunk) ≡ goesOn b h s fill chunk
+    unfolding goesOn
+    goes-header l = rw (le-leb (fill .came + length chunk) (fileLength h s) fits, lt-leb headerLength (fill .came) l)
+
+  pub goes-fits : goesOn b h s fill chunk ≡ true → fill .came + length chunk ≤ fileLength h s
+  unfolding goesOn
+  goes-fits e = leb-true (fill .came + length chunk) (fileLength h s) (and-left (leb (fill .came + length chunk) (fileLength h s)) _ e)
+
+-- ---- the calls
+
+pub white-left : (b h number : ℕ) (raw after : List ℕ) (fill : Fill) → length raw ≡ h * b → after ≡ overlayAt 0 (replicate (h * b) 0xFF) raw
+    → fill ≡ emptyFill → (fed number fill, after) ≡ ended b h number
+white-left b h number raw after fill e p q =
+    rw (p, q, overlay-whole (replicate (h * b) 0xFF) raw (omega (arith, length-replicate {A = ℕ} (h * b) 0xFF)))
+
+module _ (b h s : ℕ) (fill : Fill) (chunk raw : List ℕ) where
+  pub feed-refused : goesOn b h s fill chunk ≡ false → ended b h 4 ≡ feeding b h s fill chunk raw
+  unfolding feeding
+  feed-refused e = rw e
+
+  pub feed-taken : (next : Fill) (after : List ℕ) → goesOn b h s fill chunk ≡ true → (next, after) ≡ bytesFed b h s (fill, raw) chunk
+      → (fed 0 next, after) ≡ feeding b h s fill chunk raw
+  unfolding feeding
+  feed-taken next after e f = rw (e, ← f)
+
+  module _ (total : ℕ) (is : total ≡ fileLength h s) where
+    pub finish-refused : (fill .came ≡ total → ⊥) → ended b h 4 ≡ finishing b h s fill raw
+    unfolding finishing
+    finish-refused n = rw (← is, ne-eqb (fill .came) total n)
+
+    pub finish-taken : (next : Fill) → next ≡ emptyFill → fill .came ≡ total → (fed 0 next, raw) ≡ finishing b h s fill raw
+    unfolding finishing
+    finish-taken next p e = rw (← is, eq-eqb (fill .came) total e, p)
+
+-- ---- the conditions
+
+-- two numbers are 0 where their bits together are
+or-zero : (a b : ℕ) → eqb (bitOr a b) 0 ≡ (eqb a 0 && eqb b 0)
+or-zero a b =
+    elim (ℕ-discrete a 0) [
+      | yes e ↦ rw (e, or-zero-l b)
+      | no n ↦
+          let m : (bitOr a b ≡ 0 → ⊥) = λ z. n (omega (arith, or-add-and a b, and-le-r a b)) in
+          rw (ne-eqb a 0 n, ne-eqb (bitOr a b) 0 m)
+    ]
+
+-- the bits of the bytes so far, and the bytes from an index on
+module _ (bytes : List ℕ) (i any : ℕ) where
+  pub zero-next : i < length bytes
+      → (eqb (bitOr any (getD bytes i 0)) 0 && allZero (drop (i + 1) bytes)) ≡ (eqb any 0 && allZero (drop i bytes))
+  zero-next l =
+      rw (add-one, drop-cons bytes i 0 l, or-zero any (getD bytes i 0))
+      (and-assoc (eqb any 0) (eqb (getD bytes i 0) 0) (allZero (drop (suc i) bytes)))
+
+  pub zero-end : length bytes ≤ i → eqb any 0 ≡ (eqb any 0 && allZero (drop i bytes))
+  zero-end l = rw (drop-of-length-le bytes {i = i} l, and-true)
+
+module _ (b h s : ℕ) (fill : Fill) (known : Bool) (is : known ≡ blackAndWhite (fill .palette)) where
+  pub rule-whole : headerLength ≤ fill .came → known ≡ headerRule b h s fill
+  rule-whole l = rw (le-ltb (fill .came) headerLength l, is)
+
+  pub rule-early : fill .came < headerLength → known ≡ true → false ≡ headerRule b h s fill
+  rule-early l e = rw (lt-ltb (fill .came) headerLength l, ← is, e, and-false)
+
+  pub rule-begun : fill .came < headerLength → known ≡ false → headerBegins b h s (take (fill .came) (fill .kept)) ≡ headerRule b h s fill
+  rule-begun l e = rw (lt-ltb (fill .came) headerLength l, ← is, e, and-true)
+
+  pub rule-none : known ≡ false → fill .came ≡ 0 → true ≡ headerRule b h s fill
+  rule-none e z =
+      let none : headerBegins b h s (take (fill .came) (fill .kept)) ≡ true = rw z (begins-header b h s [] (begins-empty b h s)) in
+      sym none ∙ rule-begun (omega arith) e
