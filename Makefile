@@ -79,7 +79,7 @@ tests: build
 	$(PYTHON) -m tests.layout.compare target/bin/layout_list
 	@echo "== every public call on the store has a place in demand 3"
 	$(PYTHON) tests/chain/calls.py
-	@echo "== the independent implementation by itself: bitmaps by chunks against whole uploads"
+	@echo "== the independent implementation by itself: bitmaps by chunks against whole uploads, summaries dot by dot"
 	$(PYTHON) -m tests.replay.whole
 	@echo "== random scripts of calls against an independent implementation, with the sums read from the bytes handed out"
 	$(PYTHON) -m tests.replay.compare target/bin/replay

@@ -2,6 +2,7 @@
  * A store in plain C, as a careful engineer would write it: each call is given a pointer to the state and changes it in
  * place, and tests it first, file and all, as the rules ask (13). A region is written row by row, and so is a bitmap that
  * comes by chunks: a row that a chunk has whole goes into its slot at once, others by way of the bytes that the state keeps.
+ * A call that writes a slot counts its black dots afresh, eight bytes at a time.
  */
 #include "plain.h"
 #include "store.h"
@@ -9,7 +10,7 @@
 #include <stdbool.h>
 #include <string.h>
 
-enum { FILE_MAX = 637, OUT_MIN = 117, FRAME_MS = 30, HEADER = 62 };
+enum { FILE_MAX = 637, OUT_MIN = 117, FRAME_MS = 30, HEADER = 62, SLOTS_MAX = 7 };
 
 struct panel {
     uint32_t row_bytes, rows, frames, stride;
@@ -44,6 +45,13 @@ struct fill {
     uint8_t kept[HEADER]; /* of a header or row that has not come whole; 0 after that */
 };
 
+/* A slot's black dots, and the first and last row with one. Where there is none all is 0. */
+struct summary {
+    uint32_t black;
+    bool rows; /* whether they are given */
+    uint32_t first, last;
+};
+
 struct store {
     uint8_t file[FILE_MAX];
     size_t len;
@@ -51,6 +59,7 @@ struct store {
     enum phase phase;
     struct run run;
     struct fill fill;
+    struct summary summaries[SLOTS_MAX + 1];
     bool trusted; /* calls do not test the state */
 };
 
@@ -192,6 +201,76 @@ static bool header_begins(const struct panel *panel, const uint8_t *file, size_t
     return colours_begin(file, n, 0, 0xFFFFFF) || colours_begin(file, n, 0xFFFFFF, 0);
 }
 
+static void put_row(uint8_t *restrict row, const uint8_t *restrict bytes, uint32_t n, bool turned)
+{
+    if (turned)
+        for (uint32_t i = 0; i < n; i++)
+            row[i] = (uint8_t)~bytes[i];
+    else
+        memcpy(row, bytes, n);
+}
+
+/* Makes a picture that of a good file. */
+static void read_bitmap(const struct panel *panel, const uint8_t *file, uint8_t *picture)
+{
+    bool turned = palette_of(file) == WHITE_FIRST;
+    for (uint32_t y = 0; y < panel->rows; y++)
+        put_row(picture + y * panel->row_bytes, file + HEADER + (panel->rows - 1 - y) * panel->stride,
+                panel->row_bytes, turned);
+}
+
+/* ---- summaries */
+
+static size_t picture_bytes(const struct panel *panel)
+{
+    return (size_t)panel->rows * panel->row_bytes;
+}
+
+static uint64_t word_at(const uint8_t *bytes)
+{
+    uint64_t word;
+    memcpy(&word, bytes, sizeof word);
+    return word;
+}
+
+/* The bits of a word that are 1. */
+static uint32_t ones(uint64_t word)
+{
+    word -= word >> 1 & 0x5555555555555555u;
+    word = (word & 0x3333333333333333u) + (word >> 2 & 0x3333333333333333u);
+    word = (word + (word >> 4)) & 0x0F0F0F0F0F0F0F0Fu;
+    return (uint32_t)(word * 0x0101010101010101u >> 56);
+}
+
+static uint32_t black_dots(const uint8_t *bytes, size_t n)
+{
+    uint32_t white = 0;
+    size_t i = 0;
+    for (; i + 8 <= n; i += 8)
+        white += ones(word_at(bytes + i));
+    for (; i < n; i++)
+        white += ones(bytes[i]);
+    return 8 * (uint32_t)n - white;
+}
+
+/* A fresh count. Only the bytes from the first with a black dot to the last are counted. */
+static struct summary summary_of(const struct panel *panel, const uint8_t *picture)
+{
+    size_t first = 0, end = picture_bytes(panel);
+    while (end >= 8 && word_at(picture + end - 8) == UINT64_MAX)
+        end -= 8;
+    while (end > 0 && picture[end - 1] == 0xFF)
+        end--;
+    if (end == 0)
+        return (struct summary){0};
+    while (first + 8 <= end && word_at(picture + first) == UINT64_MAX)
+        first += 8;
+    while (picture[first] == 0xFF)
+        first++;
+    return (struct summary){black_dots(picture + first, end - first), true, (uint32_t)first / panel->row_bytes,
+                            (uint32_t)(end - 1) / panel->row_bytes};
+}
+
 /* ---- the state's conditions (13) and the memory's length (1) */
 
 static bool after_write(const uint8_t *file, size_t section, uint32_t k)
@@ -255,19 +334,28 @@ static bool fill_valid(const struct store *store, const struct panel *panel)
     return fill->palette == NEITHER && header_begins(panel, fill->kept, fill->came);
 }
 
-static size_t picture_bytes(const struct panel *panel)
+/* Whether the summaries of slots 0 to n can be those of pictures. */
+static bool summaries_valid(const struct store *store, const struct panel *panel)
 {
-    return (size_t)panel->rows * panel->row_bytes;
+    for (uint32_t slot = 0; slot <= store->slots; slot++) {
+        const struct summary *summary = &store->summaries[slot];
+        if (summary->black > 8 * panel->row_bytes * panel->rows || summary->rows != (summary->black > 0))
+            return false;
+        if (summary->rows && (summary->first > summary->last || summary->last >= panel->rows))
+            return false;
+    }
+    return true;
 }
 
 /* 13 or 1, or 0; and the panel and the stop section. */
 static uint8_t refused(const struct store *store, size_t memory_len, const struct panel **panel, size_t *stop)
 {
     *stop = store->len > FILE_MAX ? 0 : stop_of(store->file, store->len);
-    if (*stop == 0 || store->slots < 1 || store->slots > 7)
+    if (*stop == 0 || store->slots < 1 || store->slots > SLOTS_MAX)
         return 13;
     *panel = &panels[store->file[1]];
-    if ((store->phase == RUNNING && !run_valid(store, *panel, *stop)) || !fill_valid(store, *panel))
+    if ((store->phase == RUNNING && !run_valid(store, *panel, *stop)) || !fill_valid(store, *panel) ||
+        !summaries_valid(store, *panel))
         return 13;
     return memory_len == (store->slots + 1) * picture_bytes(*panel) ? 0 : 1;
 }
@@ -292,7 +380,7 @@ static uint8_t store_open(struct store *store, const uint8_t *file, size_t len, 
 {
     if (stop_of(file, len) == 0)
         return 2;
-    if (n < 1 || n > 7 || memory_len != (n + 1) * picture_bytes(&panels[file[1]]))
+    if (n < 1 || n > SLOTS_MAX || memory_len != (n + 1) * picture_bytes(&panels[file[1]]))
         return 1;
     memset(store, 0, sizeof *store);
     memcpy(store->file, file, len);
@@ -316,13 +404,9 @@ static uint8_t upload_refused(const struct store *store, size_t memory_len, uint
     return store->fill.slot == slot ? 15 : 0;
 }
 
-static void put_row(uint8_t *restrict row, const uint8_t *restrict bytes, uint32_t n, bool turned)
+static void count_slot(struct store *store, const struct panel *panel, const uint8_t *memory, uint32_t slot)
 {
-    if (turned)
-        for (uint32_t i = 0; i < n; i++)
-            row[i] = (uint8_t)~bytes[i];
-    else
-        memcpy(row, bytes, n);
+    store->summaries[slot] = summary_of(panel, memory + slot * picture_bytes(panel));
 }
 
 static uint8_t store_upload_bitmap(struct store *store, uint8_t *memory, size_t memory_len, uint32_t slot,
@@ -334,11 +418,8 @@ static uint8_t store_upload_bitmap(struct store *store, uint8_t *memory, size_t 
         return number;
     if (!bitmap_good(panel, file, len))
         return 4;
-    uint8_t *picture = memory + slot * picture_bytes(panel);
-    bool turned = palette_of(file) == WHITE_FIRST;
-    for (uint32_t y = 0; y < panel->rows; y++)
-        put_row(picture + y * panel->row_bytes, file + HEADER + (panel->rows - 1 - y) * panel->stride,
-                panel->row_bytes, turned);
+    read_bitmap(panel, file, memory + slot * picture_bytes(panel));
+    count_slot(store, panel, memory, slot);
     return 0;
 }
 
@@ -371,6 +452,7 @@ static uint8_t store_upload_region(struct store *store, uint8_t *memory, size_t 
     uint32_t bytes = (width + 7) / 8;
     for (uint32_t j = 0; j < height; j++)
         plain_row(picture + (y + j) * panel->row_bytes + x / 8, x % 8, width, payload + j * bytes, bytes);
+    count_slot(store, panel, memory, slot);
     return 0;
 }
 
@@ -400,6 +482,7 @@ static uint8_t fill_refused(const struct store *store, size_t memory_len, const 
 static void drop_fill(struct store *store, const struct panel *panel, uint8_t *memory)
 {
     memset(memory + store->fill.slot * picture_bytes(panel), 0xFF, picture_bytes(panel));
+    store->summaries[store->fill.slot] = (struct summary){0};
     memset(&store->fill, 0, sizeof store->fill);
 }
 
@@ -417,10 +500,16 @@ static bool goes_on(const struct fill *fill, const struct panel *panel, const ui
     return header_begins(panel, header, fill->came + n);
 }
 
+/* How many rows have come whole. */
+static size_t rows_come(const struct fill *fill, const struct panel *panel)
+{
+    return fill->came < HEADER ? 0 : (fill->came - HEADER) / panel->stride;
+}
+
 /* The row that comes next, from the bottom up. */
 static void fill_row(struct fill *fill, const struct panel *panel, uint8_t *picture, const uint8_t *row)
 {
-    size_t y = panel->rows - 1 - (fill->came - HEADER) / panel->stride;
+    size_t y = panel->rows - 1 - rows_come(fill, panel);
     put_row(picture + y * panel->row_bytes, row, panel->row_bytes, fill->palette == WHITE_FIRST);
 }
 
@@ -454,6 +543,7 @@ static uint8_t store_feed(struct store *store, uint8_t *memory, size_t memory_le
         return 4;
     }
     uint8_t *picture = memory + fill->slot * picture_bytes(panel);
+    size_t rows = rows_come(fill, panel);
     while (len > 0) {
         size_t n = panel->stride;
         if (fill->came >= HEADER && kept_count(panel, fill->came) == 0 && len >= n) {
@@ -465,6 +555,8 @@ static uint8_t store_feed(struct store *store, uint8_t *memory, size_t memory_le
         chunk += n;
         len -= n;
     }
+    if (rows_come(fill, panel) > rows)
+        count_slot(store, panel, memory, fill->slot);
     return 0;
 }
 
@@ -594,6 +686,7 @@ static struct answer poll_stop(struct store *store, const struct panel *panel, s
     if (next.step < store->file[stop])
         return put_step(store, &next, moment, out);
     memcpy(memory, memory + run->slot * picture_bytes(panel), picture_bytes(panel));
+    store->summaries[0] = store->summaries[run->slot];
     store->phase = IDLE;
     return (struct answer){DONE, 0};
 }
@@ -699,6 +792,26 @@ uint8_t plain_bitmap(const uint8_t *file, size_t file_len, const uint8_t *bitmap
     if (number != 0)
         return number;
     return store_upload_bitmap(&store, memory, memory_len, 1, bitmap, bitmap_len);
+}
+
+static bool is_picture(uint32_t panel, size_t len)
+{
+    return panel < 3 && len == picture_bytes(&panels[panel]);
+}
+
+uint8_t plain_copy(uint32_t panel, const uint8_t *bitmap, size_t bitmap_len, uint8_t *picture, size_t picture_len)
+{
+    if (!is_picture(panel, picture_len))
+        return 1;
+    if (bitmap_len != file_length(&panels[panel]))
+        return 4;
+    read_bitmap(&panels[panel], bitmap, picture);
+    return 0;
+}
+
+uint32_t plain_count(uint32_t panel, const uint8_t *picture, size_t picture_len)
+{
+    return is_picture(panel, picture_len) ? summary_of(&panels[panel], picture).black : 0;
 }
 
 uint8_t plain_region(const uint8_t *file, size_t file_len, uint32_t x, uint32_t y, uint32_t width, uint32_t height,

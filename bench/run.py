@@ -2,8 +2,8 @@
 docs/BENCHMARKS.md.
 
 Run from the repository's root by `make bench`, which builds the libraries. `--compare` only checks that the driver and
-plain C put the same bytes out in a whole update of each panel, take the same bitmaps by chunks, paint the same regions, and give
-out the same for a finish panel and the hall display.
+plain C put the same bytes out in a whole update of each panel, take the same bitmaps by chunks, count the same dots, paint the same
+regions, and give out the same for a finish panel and the hall display.
 """
 import os
 import re
@@ -20,6 +20,7 @@ COMPILE = ["gcc", "-std=c99", "-O3", "-Wall", "-Wextra", "-pedantic", "-Iinclude
 LINE_ROUNDS, UPDATE_ROUNDS, FINISH_ROUNDS, HALL_ROUNDS, REGION_ROUNDS = 60, 100, 60, 60, 200
 REGION_LIMITS = {"whole": 1 / 3, "part": 1 / 4}  # at most this much of the time of the loop over the region's dots
 FILL_LIMIT = 3  # a bitmap fed whole takes at most so many times its upload
+COUNT_LIMIT = 2  # the count of an upload's slot takes at most so many times the upload's own copy
 BUS_HZ = 12_000_000
 
 
@@ -55,7 +56,8 @@ def compare():
     for panel in PANELS:
         found = numbers([f"{OUT}/update", settings_path(panel), "1"])
         print(f"panel {panel.name}: the driver and plain C put the same {found['bytes']:,.0f} bytes out and leave the same memory; "
-              f"{found['fills_taken']:,.0f} bitmaps by chunks taken alike, {found['fills_refused']:,.0f} refused alike")
+              f"{found['fills_taken']:,.0f} bitmaps by chunks taken alike, {found['fills_refused']:,.0f} refused alike; "
+              f"{found['dots_counted']:,.0f} dots counted one by one")
     found = numbers([f"{OUT}/region", "0"])
     print(f"{found['painted']:,.0f} regions, at every x and of every width, by whole bytes, dot by dot and in plain C: the same pictures; "
           f"{found['refused']:,.0f} refused alike")
@@ -138,6 +140,31 @@ def fill_rows(store):
     ]
 
 
+def count_parts(store):
+    """What the count of a slot adds to an upload, the opening's time taken off: rows, and the count over the copy, of random dots and
+    of a blank picture."""
+    over = [store[f"{name}_library"] / store["copy_library"] for name in ("count", "blank")]
+    if max(over) > COUNT_LIMIT:
+        sys.exit(f"the count of a slot takes more than {COUNT_LIMIT} times the upload's own copy: {max(over):.2f}")
+    upload, without = ({version: store[f"bitmap_{version}"] - store[f"opening_{version}"] - taken * store[f"count_{version}"]
+                        for version in ("library", "plain")} for taken in (0, 1))
+
+    def timed(work, times):
+        return row(work, times["library"], times["plain"], "ns", 1)
+
+    def part(work, name):
+        return timed(work, {version: store[f"{name}_{version}"] for version in ("library", "plain")})
+
+    rows = [
+        timed("an upload, with its count", upload),
+        timed("the same without it, the count's time taken off", without),
+        part("the upload's own copy alone", "copy"),
+        part("its count alone", "count"),
+        part("the count of a blank picture", "blank"),
+    ]
+    return rows, *(f"{ratio:.2f}" for ratio in over)
+
+
 def white_over_black(store):
     """An upload with white first over one with black first: with the opening before it, and with its time taken off."""
     black, white, opening = (store[f"{name}_library"] for name in ("bitmap", "negative", "opening"))
@@ -201,6 +228,7 @@ def document(panel):
     with open("bench/BENCHMARKS.template.md", encoding="utf-8") as template:
         text = template.read()
     with_opening, alone = white_over_black(store)
+    counts, count_ratio, blank_ratio = count_parts(store)
     compiler = subprocess.run(["gcc", "--version"], stdout=subprocess.PIPE, text=True).stdout.splitlines()[0]
     parts = {
         "MACHINE": f"{processor()}; {compiler}",
@@ -210,6 +238,7 @@ def document(panel):
         "REGION_ROUNDS": str(REGION_ROUNDS),
         "REGIONS": "\n".join(region_rows()),
         "FILLS": "\n".join(fill_rows(store)), "FILL_LIMIT": str(FILL_LIMIT),
+        "COUNTS": "\n".join(counts), "COUNT_LIMIT": str(COUNT_LIMIT), "COUNT_RATIO": count_ratio, "BLANK_RATIO": blank_ratio,
         "WHITE_FIRST": with_opening, "WHITE_FIRST_ALONE": alone,
         "FINISH_ROUNDS": str(FINISH_ROUNDS),
         "FINISH": "\n".join(finish_rows()),

@@ -37,6 +37,16 @@ uint8_t store_fill(const uint8_t *settings, size_t settings_len, const uint8_t *
 uint8_t plain_fill(const uint8_t *settings, size_t settings_len, const uint8_t *bitmap, size_t bitmap_len, size_t size,
                    uint8_t *memory, size_t memory_len);
 
+/*
+ * The two parts of a bitmap upload by themselves, on a picture that is lent by itself. The copy: the picture becomes that of the file,
+ * whose header is not looked at but for its palette; 1 where it is no picture of the panel, 4 where the file has another length. The count
+ * that an upload leaves of its slot: the black dots, or 0 where it is no picture of the panel.
+ */
+uint8_t picture_copy(uint32_t panel, const uint8_t *bitmap, size_t bitmap_len, uint8_t *picture, size_t picture_len);
+uint8_t plain_copy(uint32_t panel, const uint8_t *bitmap, size_t bitmap_len, uint8_t *picture, size_t picture_len);
+uint32_t picture_count(uint32_t panel, const uint8_t *picture, size_t picture_len);
+uint32_t plain_count(uint32_t panel, const uint8_t *picture, size_t picture_len);
+
 /* Opens a store and uploads a region of slot 1: the upload's number. */
 uint8_t store_region(const uint8_t *settings, size_t settings_len, uint32_t x, uint32_t y, uint32_t width,
                      uint32_t height, const uint8_t *payload, size_t payload_len, uint8_t *memory,

@@ -1,11 +1,12 @@
 /*
- * A whole update, uploads of a bitmap with black first and with white first, whole and by chunks, and the upload of the whole
- * panel as one region: the library (crates/update_loop) beside plain C (plain_store.c), in one run. The versions take turns;
- * the best round of each counts. They must put the same bytes out and leave the same memory. Before that they must agree on
- * files by chunks, good and damaged ones.
+ * A whole update, uploads of a bitmap with black first and with white first, whole and by chunks, the upload of the whole panel as
+ * one region, and the copy and the count of an upload by themselves: the library (crates/update_loop) beside plain C
+ * (plain_store.c), in one run. The versions take turns; the best round of each counts. They must put the same bytes out, leave
+ * the same memory and count the same dots. Before that they must agree on files by chunks, good and damaged ones, and on each
+ * dot alone.
  *
- * Usage: update SETTINGS ROUNDS     the settings file names the panel; prints how many fills were accepted and refused, and
- *                                   nanoseconds
+ * Usage: update SETTINGS ROUNDS     the settings file names the panel; prints how many fills were accepted and refused, how many
+ *                                   dots were counted alone, and nanoseconds
  */
 #define _POSIX_C_SOURCE 199309L
 #include <stdio.h>
@@ -28,6 +29,7 @@ static uint8_t settings[SETTINGS_MAX + 1], bitmap[BITMAP_MAX], negative[BITMAP_M
 static uint8_t damaged[BITMAP_MAX + 1], uploaded[2 * PICTURE_MAX];
 static uint8_t memory[VERSIONS][2 * PICTURE_MAX], bus[VERSIONS][BUS_MAX];
 static size_t settings_len, bitmap_len, picture_len, memory_len, sent[VERSIONS];
+static uint32_t counted[VERSIONS];
 static unsigned width, height;
 
 static double now(void)
@@ -154,6 +156,32 @@ static void time_fill_bytes(int v)
         stop("a fill a byte at a time was refused");
 }
 
+static void time_copy(int v)
+{
+    for (int i = 0; i < UPLOADS; i++)
+        if ((v == 0 ? picture_copy : plain_copy)(settings[1], bitmap, bitmap_len, memory[v] + picture_len, picture_len))
+            stop("a copy was refused");
+}
+
+static uint32_t count(int v, const uint8_t *picture)
+{
+    return (v == 0 ? picture_count : plain_count)(settings[1], picture, picture_len);
+}
+
+/* Slot 0 of `uploaded` is white, slot 1 has the bitmap's picture. */
+static void time_count(int v)
+{
+    for (int i = 0; i < UPLOADS; i++)
+        counted[v] = count(v, uploaded + picture_len);
+}
+
+static void time_blank(int v)
+{
+    for (int i = 0; i < UPLOADS; i++)
+        if (count(v, uploaded) != 0)
+            stop("a blank picture has black dots");
+}
+
 static void time_region(int v)
 {
     for (int i = 0; i < UPLOADS; i++)
@@ -175,6 +203,8 @@ static void round_of(void (*work)(int), int versions, double *best)
             stop("the library and plain C leave different memories");
         if (sent[v] != sent[0] || memcmp(bus[v], bus[0], sent[0]) != 0)
             stop("the library and plain C put different bytes out");
+        if (v < 2 && counted[v] != counted[0])
+            stop("the library and plain C count different dots");
     }
 }
 
@@ -209,6 +239,25 @@ static void compare_fills(void)
     }
 }
 
+/* Each dot of a white picture alone black, and each of a black one alone white. Answers how many pictures that were. */
+static unsigned compare_counts(void)
+{
+    static uint8_t picture[PICTURE_MAX];
+    unsigned dots = 8 * (unsigned)picture_len;
+    for (int around = 0xFF; around >= 0; around -= 0xFF) {
+        memset(picture, around, picture_len);
+        for (unsigned dot = 0; dot < dots; dot++) {
+            uint8_t *byte = &picture[dot / 8], bit = (uint8_t)(0x80 >> dot % 8);
+            *byte ^= bit;
+            for (int v = 0; v < 2; v++)
+                if (count(v, picture) != (around ? 1 : dots - 1))
+                    stop("a single dot is counted wrong");
+            *byte ^= bit;
+        }
+    }
+    return 2 * dots;
+}
+
 static const struct {
     const char *name;
     void (*work)(int);
@@ -216,8 +265,10 @@ static const struct {
 } works[] = {
     {"update", time_update, VERSIONS, 1, 0},        {"opening", time_opening, 2, UPLOADS, 0},
     {"bitmap", time_bitmap, 2, UPLOADS, 1},         {"negative", time_negative, 2, UPLOADS, 1},
-    {"fill_whole", time_fill_whole, 2, UPLOADS, 1}, {"fill_64", time_fill_64, 2, UPLOADS, 1},
-    {"fill_bytes", time_fill_bytes, 2, 1, 1},       {"region", time_region, 2, UPLOADS, 0},
+    {"copy", time_copy, 2, UPLOADS, 1},             {"count", time_count, 2, UPLOADS, 1},
+    {"blank", time_blank, 2, UPLOADS, 1},           {"fill_whole", time_fill_whole, 2, UPLOADS, 1},
+    {"fill_64", time_fill_64, 2, UPLOADS, 1},       {"fill_bytes", time_fill_bytes, 2, 1, 1},
+    {"region", time_region, 2, UPLOADS, 0},
 };
 
 enum { WORKS = sizeof works / sizeof works[0] };
@@ -230,13 +281,14 @@ int main(int argc, char **argv)
     read_settings(argv[1]);
     make_pictures();
     compare_fills();
+    unsigned dots_counted = compare_counts();
     for (int round = 0; round < atoi(argv[2]); round++)
         for (int w = 0; w < WORKS; w++) {
             round_of(works[w].work, works[w].versions, best[w]);
             if (works[w].uploads && memcmp(memory[0], uploaded, memory_len) != 0)
                 stop("an upload leaves another picture than that of the bitmap");
         }
-    printf("bytes %zu\nfills_taken %u\nfills_refused %u\n", sent[0], fills_taken, fills_refused);
+    printf("bytes %zu\nfills_taken %u\nfills_refused %u\ndots_counted %u\n", sent[0], fills_taken, fills_refused, dots_counted);
     for (int w = 0; w < WORKS; w++)
         for (int v = 0; v < works[w].versions; v++)
             printf("%s_%s %.0f\n", works[w].name, names[v], best[w][v] / works[w].repeats);

@@ -76,14 +76,14 @@ def show_panel(panel, whole_listing):
         accepted(replay, "open 2 " + file.hex())
 
         upload_bitmap(replay, panel, 1, bib17)
-        say("\nBib 17: uploaded to slot 1 as a bitmap.\n")
+        say("\nBib 17: uploaded to slot 1 as a bitmap. %s\n" % summary_text(replay, 1))
         show_bib(replay, glass, clock, 1, "17", bib17, {panel.frames + 5: 50})  # oversleeps in stage 2
 
         clock.sleep(BETWEEN_BIBS)
         chunks = fill(replay, panel, 2, bib17)
         upload_region(replay, 2, bib18, second)
-        say("\nBib 18: slot 2 got the bitmap of bib 17 in %d chunks, then its second digit as a region of %d x %d dots.\n" % (
-            chunks, *second[2:]))
+        say("\nBib 18: slot 2 got the bitmap of bib 17 in %d chunks, then its second digit as a region of %d x %d dots.\n%s\n" % (
+            chunks, *second[2:], summary_text(replay, 2)))
         show_bib(replay, glass, clock, 2, "18", bib18, {2 * panel.frames: 20})  # oversleeps before stage 3
 
 
@@ -119,6 +119,11 @@ def upload_region(replay, slot, drawn, box):
     accepted(replay, "region %d %d %d %d %d %s" % (slot, *box, digits.cut_out(drawn, *box).hex()))
 
 
+def summary_text(replay, slot):
+    """What the driver's summary tells of a slot that is not blank."""
+    return "Summary of slot {}: {:,} black dots, in rows {} to {}.".format(slot, *map(int, accepted(replay, "summary %d" % slot).split()))
+
+
 def show_bib(replay, glass, clock, slot, number, drawn, oversleep):
     """Runs a slot, checks what the board shows then, and prints it."""
     panel, update = glass.panel, Update(glass)
@@ -128,22 +133,30 @@ def show_bib(replay, glass, clock, slot, number, drawn, oversleep):
     say(board_text(glass.picture(), timeline(update)))
     say("{:,} bytes sent. Sums from {} to {}; sums at rest: white dots 0, black dots {}.".format(
         update.bytes_sent(), glass.lowest, glass.highest, -panel.frames))
-    say("The board shows what was drawn, and what the driver's own writer gives back for slot 0.")
+    say("The board shows what was drawn, and what the driver's own writer and summary tell of slot 0.")
     say("%s, its stages one by one: %s" % write_pictures(glass, update, "%s-bib-%s" % (panel.name, number)))
 
 
 def check(replay, glass, update, drawn):
-    """The glass must show what the driver's writer gives back for slot 0, and what was drawn; every dot must be at rest."""
+    """The glass must show what the driver's writer and its summary tell of slot 0, and what was drawn; every dot must be at rest."""
     panel, shown = glass.panel, glass.picture()
     slot0 = bitmap.read(panel, bytes.fromhex(accepted(replay, "write 0")))
     for holds, trouble in (
             (update.lines == STAGES * panel.frames * panel.height, "was sent %d lines" % update.lines),
             (shown == slot0, "does not show the picture of slot 0"),
+            (summary_of(shown) == accepted(replay, "summary 0"), "has other black dots than the summary of slot 0 tells"),
             (shown == drawn, "does not show the picture that was drawn"),
             ({total for sums in glass.sums for total in sums} <= {0, -panel.frames}, "has dots that are not at rest"),
             (-panel.frames <= glass.lowest and glass.highest <= 0, "had sums from %d to %d" % (glass.lowest, glass.highest))):
         if not holds:
             raise Unexpected("the %s inch panel %s" % (panel.name, trouble))
+
+
+def summary_of(picture):
+    """The black dots of a picture that is not blank, and the first and last row with one."""
+    rows = [digits.bits(row).count("0") for row in picture]
+    black = [y for y, dots in enumerate(rows) if dots]
+    return "%d %d %d" % (sum(rows), black[0], black[-1])
 
 
 def write_pictures(glass, update, name):

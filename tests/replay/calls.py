@@ -44,18 +44,26 @@ def upload_to_slot_of_run(script):
         script.call("region %d %d %d %d %d %s" % (run.slot, *place, rng.choice(("-", "80", "FF"))))
 
 
+def slot_to_read(script):
+    return script.rng.randint(0, script.store.slots) if script.rng.random() < 0.8 else any_slot(script)
+
+
 def write(script):
-    rng = script.rng
-    slot = rng.randint(0, script.store.slots) if rng.random() < 0.8 else any_slot(script)
+    rng, slot = script.rng, slot_to_read(script)
     exact = bitmaps.file_length(any_panel(script))
     length = rng.choice((None, None, exact, exact - 1, min(exact + 1, 6398), 0, 6398, rng.randint(0, 6398)))
     script.call(f"write {slot}" if length is None else f"write {slot} {length}")
 
 
+def summary(script):
+    script.summary(slot_to_read(script))
+
+
 def write_all(script):
-    """Every slot, and one that is none."""
+    """Every slot with its summary, and one that is none."""
     for slot in range(script.store.slots + 2):
         script.call(f"write {slot}")
+        script.summary(slot)
 
 
 def start(script):
@@ -95,7 +103,7 @@ def wrong_memory(script):
         return
     script.call(f"lend {wrong_length(script)}")
     for _ in range(rng.randint(1, 4)):
-        rng.choice((region, bitmap, write, start, poll, refused_poll, abandon, *fills.ANY))(script)
+        rng.choice((region, bitmap, write, summary, start, poll, refused_poll, abandon, *fills.ANY))(script)
     script.call(f"lend {right_length(script)}")
 
 
@@ -118,6 +126,8 @@ MALFORMED = (
     "begin", "begin ", "begin -", "begin 1 1", "begin 1 42", "begin 4294967296", "begin one", "begin  1", "begins 1", "BEGIN 1",
     "chunk", "chunk ", "chunk 4", "chunk 42 4D", "chunk 1 42", "chunk --", "chunk -42", "chunk 4G", "chunk  42", "chunk\t42", "Chunk 42",
     "finish ", "finish 1", "finish -", "finished", "finis", "FINISH", "cancel ", "cancel 1", "cancel -", "cancels", "cance", "cancel\r",
+    "summary", "summary ", "summary -", "summary -1", "summary 1 1", "summary 1 ", "summary one", "summary  1", "summary 0x1",
+    "summary 4294967296", "summary1", "summary\t1", "summarys 1", "summar 1", "Summary 1", "SUMMARY 1", " summary 1", "summary 1\r",
     "write", "write ", "write 1 6399", "write -1", "write 1 1 1", "write 1  1598", "write\x001", "write 4294967296",
     "done", "quit", "# note", "\xB2", "\xFF\xFE", "\xEF\xBB\xBFabandon",
 )
@@ -131,7 +141,7 @@ def malformed(script):
     script.call(text)
 
 
-STAYING = (region, bitmap, upload_to_slot_of_run, write, start, refused_poll, refused_poll, abandon_without_run, wrong_memory,
+STAYING = (region, bitmap, upload_to_slot_of_run, write, summary, start, refused_poll, refused_poll, abandon_without_run, wrong_memory,
            malformed, *[fills.next_call] * 4)
 
 

@@ -20,10 +20,10 @@ LEAST_SCRIPTS, LEAST_CALLS = 200, 500_000
 REFUSALS = {
     "open": (2, 1), "lend": (), "region": (13, 1, 3, 7, 15, 5, 6), "bitmap": (13, 1, 3, 7, 15, 4), "begin": (13, 1, 3, 7, 15, 16),
     "chunk": (13, 1, 17, 4), "finish": (13, 1, 17, 4), "cancel": (13, 1, 17), "start": (13, 1, 8, 12, 3, 15), "poll": (13, 1, 9, 11, 10),
-    "abandon": (13, 1, 9), "write": (13, 1, 3, 11),
+    "abandon": (13, 1, 9), "write": (13, 1, 3, 11), "summary": (13, 3),
 }
 NUMBERS = sorted({0}.union(*REFUSALS.values()))
-LEAST_GIVEN = 100  # of each of 15, 16, 17, and of 4 by a fill
+LEAST_GIVEN = 100  # of each of 15, 16, 17, of 4 by a fill, and of 13 and 3 by a summary
 FAILED_SCRIPT = "target/tests/replay_failed.txt"
 SECONDS = 60  # a program that takes longer for a script has failed
 
@@ -170,13 +170,14 @@ class Results:
         return sum(count for (_, given), count in self.given.items() if given == number)
 
     def judge_numbers(self):
-        """Each call must have given the numbers of its own and no others, and those of fills often enough."""
+        """Each call must have given the numbers of its own and no others, and those of fills and summaries often enough."""
         wanted = {(name, str(number)) for name, numbers in REFUSALS.items() for number in (0, *numbers)} | {("no call", "?")}
         given = {pair for pair, count in self.given.items() if count}
         self.judge(wanted <= given, lambda: f"never given: {sorted(wanted - given)}")
         self.judge(given <= wanted, lambda: f"given by a call that does not have it: {sorted(given - wanted)}")
         counts = {number: self.in_all(number) for number in ("15", "16", "17")}
         counts["4 by a fill"] = self.given["chunk", "4"] + self.given["finish", "4"]
+        counts.update((f"{number} by a summary", self.given["summary", number]) for number in ("13", "3"))
         for number, count in counts.items():
             self.judge(count >= LEAST_GIVEN, lambda: f"{number} was given {count} times, at least {LEAST_GIVEN} are wanted")
 

@@ -215,6 +215,62 @@ def fill_orders(script):
         script.expect(text, typed)
 
 
+def summaries(script):
+    """The black dots of a slot and the first and last row with one, after each kind of call that writes it; a refusal leaves them."""
+    black = "00" * 1536
+    for text, typed in (
+            ("summary 0", "13"), ("summary 9", "13"), (f"open 2 {FILE}", "0"), *((f"summary {slot}", "0 0 none") for slot in (0, 1, 2)),
+            ("summary 3", "3"), ("summary 8", "3"), ("summary 256", "3"), ("summary 4294967295", "3"),
+            ("region 1 0 0 1 1 00", "0"), ("summary 1", "0 1 0 0"), ("region 1 127 95 1 1 00", "0"), ("summary 1", "0 2 0 95"),
+            ("region 1 127 95 1 1 00", "0"), ("summary 1", "0 2 0 95"), ("region 1 0 0 1 1 80", "0"), ("summary 1", "0 1 95 95"),
+            ("region 1 127 95 1 1 80", "0"), ("summary 1", "0 0 none"), ("region 1 3 7 2 1 00", "0"), ("summary 1", "0 2 7 7"),
+            ("region 2 6 10 11 2 0000AAA0", "0"), ("summary 2", "0 16 10 11"), ("summary 1", "0 2 7 7"), ("summary 0", "0 0 none"),
+            ("region 2 0 0 2 1 20", "6"), ("region 2 127 0 2 1 00", "5"), ("bitmap 2 424D", "4"), ("summary 2", "0 16 10 11"),
+            ("lend 0", "0"), ("summary 2", "0 16 10 11"), ("summary 3", "3"), ("region 2 0 0 1 1 00", "1"), ("lend 4608", "0"),
+            ("summary 2", "0 16 10 11"),
+            (f"region 1 0 0 128 96 {black}", "0"), ("summary 1", "0 12288 0 95"), ("region 1 0 0 128 40 " + "FF" * 640, "0"),
+            ("summary 1", "0 7168 40 95"), ("bitmap 1 " + BITMAP_HEADER + "FF" * 1535 + "A5", "0"), ("summary 1", "0 4 0 0"),
+            ("bitmap 1 " + BITMAP_HEADER + "7E" + "FF" * 1535, "0"), ("summary 1", "0 2 95 95"),
+            ("bitmap 1 " + BITMAP_HEADER[:108] + "FFFFFF00 00000000".replace(" ", "") + "00" * 1520 + "18" + "00" * 15, "0"),
+            ("summary 1", "0 2 0 0")):
+        script.expect(text, typed)
+
+
+def summaries_of_fills(script):
+    """A fill changes the summary with the last byte of a row's stride, its 4 and a cancel leave 0 and none, a finish the count."""
+    for text, typed in (
+            (f"open 1 {FILE}", "0"), ("region 1 6 10 11 2 0000AAA0", "0"), ("begin 1", "0"), ("summary 1", "0 16 10 11"),
+            ("chunk " + BITMAP_HEADER, "0"), ("summary 1", "0 16 10 11"), ("chunk " + "00" * 15, "0"), ("summary 1", "0 16 10 11"),
+            ("chunk -", "0"), ("summary 1", "0 16 10 11"), ("chunk 7E", "0"), ("summary 1", "0 138 10 95"),
+            ("chunk " + WHITE_ROW * 84 + "00", "0"), ("summary 1", "0 133 10 95"), ("chunk " + "FF" * 15, "0"),
+            ("summary 1", "0 130 10 95"), ("summary 0", "0 0 none"), ("chunk " + WHITE_ROW * 10, "0"), ("summary 1", "0 130 10 95"),
+            ("finish", "0"), ("summary 1", "0 130 10 95"), ("finish", "17"), ("summary 1", "0 130 10 95"),
+            ("begin 1", "0"), ("chunk 424D3E07", "4"), ("summary 1", "0 0 none"), ("region 1 0 0 1 1 00", "0"), ("begin 1", "0"),
+            ("chunk " + BITMAP_HEADER + "00" * 16, "0"), ("summary 1", "0 129 0 95"), ("finish", "4"), ("summary 1", "0 0 none"),
+            ("begin 1", "0"), ("chunk " + BITMAP_HEADER + "00" * 16, "0"), ("summary 1", "0 128 95 95"), ("cancel", "0"),
+            ("summary 1", "0 0 none"), ("cancel", "17"), ("summary 1", "0 0 none"),
+            (f"open 1 {FILE_2}", "0"), ("region 1 0 0 200 96 " + "00" * 2400, "0"), ("summary 1", "0 19200 0 95"),
+            (f"open 2 {FILE_2}", "0"), ("summary 1", "0 0 none"), ("region 1 199 5 1 1 00", "0"), ("open 0 00", "2"), ("summary 1", "13"),
+            ("summary 0", "13")):
+        script.expect(text, typed)
+
+
+def summary_of_the_shown(script):
+    """Done copies the summary of the run's slot to slot 0: not the start, and not an abandon."""
+    script.expect(f"open 2 {FILE}", "0")
+    script.expect("region 1 6 10 11 2 0000AAA0", "0")
+    start(script, 0)
+    script.expect("summary 0", "0 0 none")
+    frames(script, 0, {})
+    script.expect("region 2 0 0 128 1 " + "00" * 16, "0")
+    script.expect("summary 0", "0 0 none")
+    poll(script, 1935, "0 done")
+    for text, typed in (("summary 0", "0 16 10 11"), ("summary 1", "0 16 10 11"), ("summary 2", "0 128 0 0"),
+                        ("region 1 0 0 1 1 00", "0"), ("summary 1", "0 17 0 11"), ("summary 0", "0 16 10 11"),
+                        ("start 2 0", "0"), ("abandon", "0"), ("summary 0", "0 16 10 11"), ("summary 2", "0 128 0 0")):
+        script.expect(text, typed)
+
+
 def steps(script):
     script.expect(f"open 1 {FILE}", "0")
     start(script, 4294967290)
@@ -299,7 +355,8 @@ def orders(script):
 
 def fixed_scripts():
     for make in (dot_codes, net_pushes, scan_bytes, regions, palettes, fill, fill_with_white_first, fill_with_padding, refused_fills,
-                 fill_orders, steps, early_poll, late_frame, end_in_time, end_late, orders):
+                 fill_orders, summaries, summaries_of_fills, summary_of_the_shown, steps, early_poll, late_frame, end_in_time, end_late,
+                 orders):
         script = Script(make.__name__)
         make(script)
         yield script

@@ -133,7 +133,7 @@ def damaged_settings(rng, panel):
 def picture(rng, panel):
     """Rows of X/8 bytes."""
     length = panel.width // 8
-    kind = rng.randrange(6)
+    kind = rng.randrange(8)
     if kind == 0:
         return [rng.choice((b"\x00", b"\xFF")) * length] * panel.height
     if kind == 1:
@@ -141,7 +141,18 @@ def picture(rng, panel):
     if kind == 2:
         row = rng.randbytes(length)
         return [row] * panel.height
+    if kind == 3:
+        return few_black(rng, panel)
     return [rng.randbytes(length) for _ in range(panel.height)]
+
+
+def few_black(rng, panel):
+    """White but for some dots, often in a corner."""
+    rows = [bytearray(b"\xFF" * (panel.width // 8)) for _ in range(panel.height)]
+    for _ in range(rng.randint(1, 3)):
+        y, x = (rng.choice((0, last, rng.randint(0, last))) for last in (panel.height - 1, panel.width - 1))
+        rows[y][x // 8] &= ~(0x80 >> x % 8)
+    return [bytes(row) for row in rows]
 
 
 def changed(rng, file, at, length):

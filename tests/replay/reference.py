@@ -26,6 +26,8 @@ STAGES = {  # the picture looked at, the code where it is white, the code where 
     4: (NEW, WHITE, BLACK),
 }
 SCAN_MARKS = (0xC0, 0x30, 0x0C, 0x03)
+WHITE_BYTE = b"\xFF"
+BLACK_DOTS = bytes(sum(not byte >> bit & 1 for bit in range(8)) for byte in range(256))  # of each picture byte
 
 
 def wire_byte(stage, byte, dots):
@@ -158,7 +160,7 @@ class Store:
             return 1
         self.panel, self.slots, self.lent = panel, n, whole
         self.start_steps, self.stop_steps = with_waits(start), with_waits(stop)
-        self.memory[:whole] = b"\xFF" * whole
+        self.memory[:whole] = WHITE_BYTE * whole
         return 0
 
     def lend(self, length):
@@ -274,7 +276,7 @@ class Store:
 
     def end_fill(self, answer):
         """A fill that comes to nothing leaves its slot white."""
-        self.put_picture(self.fill.slot, b"\xFF" * self.size())
+        self.put_picture(self.fill.slot, WHITE_BYTE * self.size())
         self.fill = None
         return answer
 
@@ -349,6 +351,21 @@ class Store:
         picture, stride = self.picture(slot), self.panel.width // 8
         return "0 " + upper(bitmaps.write(self.panel, [picture[at:at + stride] for at in range(0, len(picture), stride)]))
 
+    def summary(self, slot):
+        """A slot's black dots, and the first and last row with one. Nothing is kept of them: they are counted afresh. It is lent no
+        memory, so 1 does not apply."""
+        if self.panel is None:
+            return 13
+        if slot > self.slots:
+            return 3
+        picture, row_bytes = self.picture(slot), self.panel.width // 8
+        black = sum(picture.translate(BLACK_DOTS))
+        if black == 0:
+            return "0 0 none"
+        first = len(picture) - len(picture.lstrip(WHITE_BYTE))  # the byte of the first black dot, and of the last
+        last = len(picture.rstrip(WHITE_BYTE)) - 1
+        return f"0 {black} {first // row_bytes} {last // row_bytes}"
+
 
 class Malformed(Exception):
     """The line is no call."""
@@ -393,6 +410,7 @@ CALLS = {
     "poll": ((number, output_length), 1),
     "abandon": ((), 0),
     "write": ((number, output_length), 1),
+    "summary": ((number,), 1),
 }
 
 

@@ -5,14 +5,15 @@ from collections import Counter
 
 from tests.bitmaps.reference import HEADER, WHITE, colours_of
 from tests.panels import PANELS
-from tests.replay import cuts, inputs, reference
+from tests.replay import cuts, inputs, reference, summaries
 
 BACK = 2 ** 31  # the smallest step that is refused
 
 
 class Script:
-    def __init__(self, name, seed=0):
-        self.name, self.seed = name, seed
+    def __init__(self, name, seed=0, asking=False):
+        """Asking for summaries after calls that write a slot."""
+        self.name, self.seed, self.asking = name, seed, asking
         self.rng = random.Random(f"{name} {seed}")
         self.store = reference.Store()
         self.calls = []
@@ -22,18 +23,50 @@ class Script:
         self.shown = {}          # call number of a done: the shown picture from then on
         self.places = Counter()  # how often something rare was reached
         self.coming = []         # chunks that are planned for the fill under way
+        self.black = Counter()   # slot: its black dots by the last summary
 
     def call(self, text):
         panel, run, fill = self.store.panel, self.store.running, self.store.fill
+        rows = self.store.whole_rows(fill) if fill and text.startswith("chunk") else 0
         answer = reference.answer(self.store, text)
-        if answer == "0 done":
-            self.shown[len(self.calls)] = self.store.picture(0)
-            self.places.update(finished(run))
-            self.places["dones while a slot is filled"] += fill is not None
-        elif fill and not text.startswith("poll"):
-            self.places.update(in_fill(panel, fill, text.split(" ", 1)[0], answer))
         self.calls.append(text)
         self.answers.append(answer)
+        if answer == "0 done":
+            self.shown[len(self.calls) - 1] = self.store.picture(0)
+            self.places.update(finished(run))
+            self.places["dones while a slot is filled"] += fill is not None
+            self.ask(0, "a done")
+        elif not text.startswith("poll") and answer != "?":
+            name, *words = text.split(" ")
+            if fill:
+                self.places.update(in_fill(panel, fill, name, answer))
+            self.ask_after(name, words, answer, fill, rows)
+        return answer
+
+    def ask_after(self, name, words, answer, fill, rows):
+        """After a call that names a slot or is one of a fill: asks for the slot's summary. The fill and its rows were there before."""
+        if (name, answer) == ("open", "0"):
+            self.black.clear()
+            self.ask(self.rng.randint(0, self.store.slots), "an opening")
+        elif name in ("region", "bitmap", "begin", "start"):
+            self.ask(int(words[0]), summaries.kind_of(name, answer, False))
+        elif fill and name in ("chunk", "finish", "cancel"):
+            self.ask(fill.slot, summaries.kind_of(name, answer, self.store.whole_rows(fill) > rows))
+
+    def ask(self, slot, kind):
+        if self.asking and self.rng.random() < summaries.CHANCES.get(kind, 1):
+            before = self.black[slot]
+            if self.summary(slot) != "3":
+                kind = summaries.by_region(before, self.black[slot]) if kind == "a region" else kind
+                self.places["summaries after " + kind] += 1
+
+    def summary(self, slot):
+        answer = self.call(f"summary {slot}")
+        if answer.startswith("0 "):
+            black, *rows = answer.split(" ")[1:]
+            self.black[slot] = int(black)
+            self.places.update(summaries.told(self.store.panel, slot, int(black), rows))
+            self.places["summaries with memory of a wrong length"] += self.store.unusable() == 1
         return answer
 
     def expect(self, text, typed):

@@ -3,7 +3,7 @@ from collections import namedtuple
 
 from tests.bitmaps.reference import HEADER
 from tests.panels import PANELS
-from tests.replay import calls, cuts, fills, inputs
+from tests.replay import calls, cuts, fills, inputs, summaries
 from tests.replay.script import BACK, Script
 
 # chances of a call that does not move the run on, of a poll before a thing is due, of a late poll, and of a delay inside a
@@ -109,6 +109,22 @@ def damaged_fills(script, panel):
             fills.send(script, 1, cuts.cut(rng, panel, whole[:length], way))
 
 
+def single_dots(script, panel):
+    """One black dot in a white slot, at each place of a row, in each row and in the corners; then two of them; then the same in white
+    in a black slot."""
+    rng, width, height = script.rng, panel.width, panel.height
+    calls.open_store(script, panel, n=1)
+    places = [(x, y) for x in (0, width - 1) for y in (0, height - 1)]
+    places += [(x, rng.randrange(height)) for x in range(width)] + [(rng.randrange(width), y) for y in range(height)]
+    for around, dot in (("FF", "00"), ("00", "80")):
+        script.call(f"region 1 0 0 {width} {height} {around * calls.picture_bytes(panel)}")
+        for dots in (*([place] for place in places), *(rng.sample(places, 2) for _ in range(100))):
+            for x, y in dots:
+                script.call(f"region 1 {x} {y} 1 1 {dot}")
+            for x, y in dots:
+                script.call(f"region 1 {x} {y} 1 1 {'80' if dot == '00' else '00'}")
+
+
 def far_first_line(script, panel):
     """Long steps among the start writes, so that F lies beyond 2^32."""
     start = inputs.every_register(script.rng, panel)
@@ -187,7 +203,8 @@ def any_calls(script, count):
             if rng.random() < 0.1:
                 script.abandon()
         else:
-            rng.choice((calls.region, calls.bitmap, calls.write, calls.start, calls.upload_and_start, fills.next_call, some_calls))(script)
+            rng.choice((calls.region, calls.bitmap, calls.write, calls.summary, calls.start, calls.upload_and_start, fills.next_call,
+                        some_calls))(script)
         if rng.random() < 0.05:
             rng.choice((calls.write_all, calls.open_store, calls.refused_opening))(script)
     calls.write_all(script)
@@ -201,6 +218,7 @@ def malformed_lines(script):
     long_lines += ["region 1 0 0 128 96 " + "f" * length for length in (16363, 16364, 16365, 16366)]
     long_lines += ["poll " + "0" * 16378 + "7", "poll " + "0" * 16379 + "7", "poll " + "9" * 16379, " " * 16384, " " * 16385]
     long_lines += ["open 1 " + "0" * 16378, "write 000001 0000001597", "chunk " + "0" * 16379, "chunk " + "0" * 16380]
+    long_lines += ["summary " + "0" * 16375 + "1", "summary " + "0" * 16376 + "1"]
     long_lines += ["chunk " + "0" * 16377, "chunk " + "0" * 16378]  # the last of them is a call, and ends a fill
     for prepare in ("abandon", "open 1 " + inputs.settings_file(script.rng, PANELS[0]).hex(), "begin 0001", "start 1 0", "abandon"):
         script.call(prepare)
@@ -217,6 +235,7 @@ def plan():
         yield filled_runs, panel
         yield cut_fills, panel
         yield damaged_fills, panel
+        yield single_dots, panel
         yield far_first_line, panel
         for place in range(9):
             yield abandoned, panel, place
@@ -228,7 +247,7 @@ def plan():
 
 def random_scripts(seed):
     for index, (kind, *arguments) in enumerate(plan()):
-        script = Script(kind.__name__, f"{seed}-{index}")
+        script = Script(kind.__name__, f"{seed}-{index}", asking=True)
         kind(script, *arguments)
         yield script
 
@@ -243,7 +262,7 @@ PLACES_TO_REACH = (
         "a field's end", "the inside of a field", "the header's end", "the inside of a row", "the padding", "one byte before a row's end",
         "a row's end", "the file's end")),
     *(f"fills refused at {at}" for at, _ in inputs.LOOKED_AT), "fills refused after the file's end", "fills finished too early",
-    "fills cancelled", "dones while a slot is filled", "openings while a slot is filled",
+    "fills cancelled", "dones while a slot is filled", "openings while a slot is filled", *summaries.PLACES,
     "polls 1 ms early", "polls over a wrap of the tick", "accepted steps of 2^31 - 1", "refused steps of 2^31",
     "refused steps of 2^32 - 1",
     "abandoned among the start writes", *(f"abandoned in stage {stage}" for stage in (1, 2, 3, 4)),

@@ -1,5 +1,5 @@
-"""Checks the reference's fills against its whole uploads: however a file is cut, the slot and the store end as after one upload of it,
-or with 4 and a white slot, from the chunk with which a field can no longer become good.
+"""Checks the reference by itself. Its fills against its whole uploads: however a file is cut, the slot and the store end as after one
+upload of it, or with 4 and a white slot, from the chunk with which a field can no longer become good. Its summaries dot by dot.
 
 Usage, from the repository's root: python3 -m tests.replay.whole
 """
@@ -76,10 +76,19 @@ def ends_white(rng, panel, file, way):
     return good and vars(store) == vars(empty) and store.chunk(b"") == store.finish() == store.cancel() == 17
 
 
+def summary_by_dots(panel, picture):
+    rows = [sum(not row[x // 8] >> 7 - x % 8 & 1 for x in range(panel.width)) for row in picture]
+    black = [y for y, count in enumerate(rows) if count]
+    return f"0 {sum(rows)} {min(black)} {max(black)}" if black else "0 0 none"
+
+
 def tried(rng):
     """What is checked, and whether it holds."""
     ways = (*cuts.FEW, *cuts.MANY)
     for panel in PANELS:
+        for picture in (inputs.picture(rng, panel) for _ in range(50)):
+            same = opened(panel, picture).summary(SLOT) == summary_by_dots(panel, picture)
+            yield f"{panel.name} inch, summary of {b''.join(picture).hex()}", same
         for way in (*ways * 5, cuts.every_byte):
             file = inputs.bitmap(rng, panel)
             yield f"{panel.name} inch, {way.__name__}", same_as_whole(rng, panel, file, way)

@@ -8,7 +8,7 @@ use Prim.Native.Nat.{ℕ, _-_, _*_, _≤_, _<_}
 use native.Mathlib.Omega.{arith}
 use borrow.Author.Tests.{ltb-true, ltb-false}
 use lib.Dec.{eqb, ltb}
-use lib.ListN.{length}
+use lib.ListN.{length, getD}
 use Rattle.lists.specs.Rules.{firstOf}
 use Rattle.lists.proofs.Rules.{None, by-test, by-cases, none-parts}
 use Rattle.panel.specs.Dots.{dot}
@@ -25,6 +25,8 @@ use Rattle.fill.specs.Fills.{begunFill}
 use Rattle.fill.specs.Feeding.{feeding, finishing, cancelling}
 use Rattle.fill.specs.declared.Fill.{Fill}
 use Rattle.fill.specs.declared.Fed.{Fed}
+use Rattle.summary.specs.Summaries.{emptySummary}
+use Rattle.summary.specs.declared.Summary.{Summary}
 use Rattle.run.specs.Clock.{passedAt}
 use Rattle.run.specs.Due.{dueOf}
 use Rattle.run.specs.Runs.{begun, waited}
@@ -38,12 +40,13 @@ use Rattle.poll.specs.Poll.{pollAt, pollCases, pollRun}
 use Rattle.poll.specs.declared.Answer.{Answer}
 use Rattle.poll.specs.declared.Answer.the-variants as answer
 use Rattle.board.specs.State.{fileOf, sizesOf, withPhase, withFill, storeCases}
-use Rattle.board.specs.Calls.{isRunning, isFilling, reply, uploadOwn, uploadCases, regionDrawn, bitmapCases, bitmapDrawn, regionUpload, bitmapUpload, beginOwn, beginCases, fillBegin, fillOwn, fillCases, onSlot, fedReply, onFill, fillFeed, fillFinish, fillCancel, startOwn, startCases, starting, abandonOwn, abandonCases, abandoning, Polling, polling, inState, pollPhase, polled, writeCases, bitmapWritten, bitmapWrite}
-use Rattle.board.specs.History.{Call, uploadRegion, uploadBitmap, beginFill, feedFill, finishFill, cancelFill, start, poll, abandon, writeBitmap, noPart, partOf, Given, number, answered, isAccepted, event, outOf, Called, ofReply, ofPoll, callOn}
+use Rattle.board.specs.Calls.{isRunning, isFilling, reply, counted, uploadOwn, uploadCases, regionDrawn, bitmapCases, bitmapDrawn, drawnTo, regionUpload, bitmapUpload, beginOwn, beginCases, fillBegin, fillOwn, fillCases, onSlot, fedReply, onFill, chunkWrites, finishWrites, fillFeed, fillFinish, fillCancel, startOwn, startCases, starting, abandonOwn, abandonCases, abandoning, Polling, polling, inState, pollPhase, polled, writeCases, bitmapWritten, bitmapWrite, summaryCases, summarised, slotSummary}
+use Rattle.board.specs.History.{Call, uploadRegion, uploadBitmap, beginFill, feedFill, finishFill, cancelFill, start, poll, abandon, writeBitmap, summary, noPart, partOf, Given, number, answered, summed, isAccepted, event, outOf, Called, ofReply, ofPoll, ofSummary, callOn}
 use Rattle.board.specs.declared.State.{State}
 use Rattle.board.specs.declared.Reply.{Reply}
+use Rattle.board.specs.declared.Summarised.{Summarised}
 use Rattle.board.proofs.States.{Tested, tested, valid-state}
-use Rattle.board.proofs.Tests.{Uploadable, uploadable, Fillable, fillable, filling, Startable, startable, running}
+use Rattle.board.proofs.Tests.{Uploadable, uploadable, Fillable, fillable, filling, Startable, startable, running, Told, told}
 
 -- ---- the effects
 
@@ -52,22 +55,29 @@ abbrev pub leaving : (call : Call) (memory : List ℕ) → Given → (state′ :
 leaving call memory given state′ memory′ out′ =
     record { seen = event call memory given []; state = state′; memory = memory′; out = out′ }
 
--- what each call of a fill does to the bytes of its slot
-pub data Fills (shape : Shape) (fill : Fill) : Call → (List ℕ → Fed × List ℕ) → Type 0 where
-  feeds : (chunk : List ℕ) → Fills shape fill (feedFill chunk) (feeding (shape .bytes) (shape .rows) (shape .stride) fill chunk)
-  finishes : Fills shape fill finishFill (finishing (shape .bytes) (shape .rows) (shape .stride) fill)
-  cancels : Fills shape fill cancelFill (λ raw. cancelling (shape .bytes) (shape .rows))
+-- what each call of a fill does to the bytes of its slot, and how it is known whether it wrote them
+pub data Fills (shape : Shape) (fill : Fill) : Call → (List ℕ → Fed × List ℕ) → (Fed → Bool) → Type 0 where
+  feeds : (chunk : List ℕ)
+      → Fills shape fill (feedFill chunk) (feeding (shape .bytes) (shape .rows) (shape .stride) fill chunk) (chunkWrites (shape .stride) fill)
+  finishes : Fills shape fill finishFill (finishing (shape .bytes) (shape .rows) (shape .stride) fill) finishWrites
+  cancels : Fills shape fill cancelFill (λ raw. cancelling (shape .bytes) (shape .rows)) (λ fed. true)
 
 module _ (state : State) (memory : List ℕ) where
+  -- what a call left that drew a picture into a slot
+  abbrev pub drawnInto : (call : Call) (slot : ℕ) (picture : List ℕ) → Called
+  drawnInto call slot picture =
+      let after = withPicture (sizesOf state .bytes) (sizesOf state .rows) memory slot picture in
+      leaving call memory (number 0) (counted (sizesOf state) state after slot) after (outOf call)
+
   -- what a call left that did this to the slot being filled
-  abbrev pub filledTo : (call : Call) (act : List ℕ → Fed × List ℕ) → Called
-  filledTo call act =
+  abbrev pub filledTo : (call : Call) (act : List ℕ → Fed × List ℕ) (writes : Fed → Bool) → Called
+  filledTo call act writes =
       let d = onSlot (sizesOf state) memory (state .store .fill .slot) act in
-      ofReply call memory (fedReply state (d .0)) (d .1) []
+      ofReply call memory (fedReply (sizesOf state) state (writes (d .0)) (d .1) (d .0)) (d .1) []
 
   -- what a poll of its run left
-  abbrev pub polledTo : (tick : Tick) (out : List ℕ) → Outcome → Called
-  polledTo tick out o = ofPoll (poll tick out) memory (inState state o)
+  abbrev pub polledTo : (run : Run) (tick : Tick) (out : List ℕ) → Outcome → Called
+  polledTo run tick out o = ofPoll (poll tick out) memory (inState state (run .slot) o)
 
   -- a poll at a moment: its run, which is valid, and its time
   pub record At (tick : Tick) (run : Run) (moment : Passed) : Type 0 where
@@ -81,17 +91,18 @@ module _ (state : State) (memory : List ℕ) where
     -- it writes its output alone
     reads : (call : Call) (out′ : List ℕ) → partOf call ≡ noPart → Tested state (length memory)
         → Effect call (leaving call memory (number 0) state memory out′)
+    -- it tells the summary of a slot
+    tells : (slot : ℕ) (held : Summary) → Told state slot → Effect (summary slot) (leaving (summary slot) memory (summed 0 held) state memory [])
     -- it draws a picture into a slot that is neither shown nor the run's
     draws : (call : Call) (slot : ℕ) (picture : List ℕ) → partOf call ≡ noPart → Tested state (length memory)
         → Uploadable (state .store) slot → length picture ≡ sizesOf state .rows * sizesOf state .bytes
-        → Effect call
-        (leaving call memory (number 0) state (withPicture (sizesOf state .bytes) (sizesOf state .rows) memory slot picture) (outOf call))
+        → Effect call (drawnInto call slot picture)
     -- it begins to fill a slot
     begins : (slot : ℕ) → Tested state (length memory) → Fillable (state .store) slot
         → Effect (beginFill slot) (leaving (beginFill slot) memory (number 0) (withFill state (begunFill slot)) memory [])
     -- it goes on with the slot being filled, or ends that: the fill and the slot change, and nothing else
-    fills : (call : Call) (act : List ℕ → Fed × List ℕ) → Fills (sizesOf state) (state .store .fill) call act
-        → Tested state (length memory) → isFilling (state .store .fill) ≡ true → Effect call (filledTo call act)
+    fills : (call : Call) (act : List ℕ → Fed × List ℕ) (writes : Fed → Bool) → Fills (sizesOf state) (state .store .fill) call act writes
+        → Tested state (length memory) → isFilling (state .store .fill) ≡ true → Effect call (filledTo call act writes)
     -- it starts a run, or abandons it
     starts : (slot : ℕ) (tick : Tick) → Tested state (length memory) → Startable (state .store) slot
         → Effect (start slot tick) (leaving (start slot tick) memory (number 0) (withPhase state (Running (begun slot tick))) memory [])
@@ -100,9 +111,9 @@ module _ (state : State) (memory : List ℕ) where
     -- it polls the run: before the next thing is due, or from then on
     waits : (tick : Tick) (out : List ℕ) (run : Run) (moment : Passed) → At tick run moment → moment .0 < dueOf (fileOf state) run
         → Effect (poll tick out)
-        (polledTo tick out (outcome (answer.Wait (dueOf (fileOf state) run - moment .0)) (Running (waited run tick moment)) memory out))
+        (polledTo run tick out (outcome (answer.Wait (dueOf (fileOf state) run - moment .0)) (Running (waited run tick moment)) memory out))
     hands : (tick : Tick) (out : List ℕ) (run : Run) (moment : Passed) → At tick run moment → dueOf (fileOf state) run ≤ moment .0
-        → Effect (poll tick out) (polledTo tick out (handOut (fileOf state) run tick moment memory out (run .next)))
+        → Effect (poll tick out) (polledTo run tick out (handOut (fileOf state) run tick moment memory out (run .next)))
 
 -- ---- each call is its effect
 
@@ -116,7 +127,7 @@ module _ (state : State) (memory : List ℕ) where
   -- the cases of an upload: what was tested of the store and of the slot
   drawn : (call : Call) (slot : ℕ) (picture : List ℕ) → partOf call ≡ noPart → None (uploadCases state (length memory) slot)
       → length picture ≡ h * b
-      → Effect state memory call (leaving call memory (number 0) state (withPicture b h memory slot picture) (outOf call))
+      → Effect state memory call (drawnInto state memory call slot picture)
   drawn call slot picture apart free long =
       let parts = none-parts (storeCases state (length memory)) (uploadOwn (state .store) slot) free in
       draws call slot picture apart (tested state (length memory) (parts .0)) (uploadable (state .store) slot (parts .1)) long
@@ -129,7 +140,7 @@ module _ (state : State) (memory : List ℕ) where
       let own = regionCases b h x y width height payload in
       by-cases (λ (r : Reply × List ℕ). Effect state memory call (ofReply call memory (r .0) (r .1) []))
       (uploadCases state (length memory) slot ++ own) (λ n. (reply n state, memory))
-      (reply 0 state, regionDrawn (sizesOf state) memory slot x y width height payload) refl
+      (drawnTo state slot (regionDrawn (sizesOf state) memory slot x y width height payload)) refl
       (λ n e. refuses call (number n) e)
       (λ free.
       let parts = none-parts (uploadCases state (length memory) slot) own free in
@@ -147,7 +158,7 @@ module _ (state : State) (memory : List ℕ) where
       let own = bitmapCases (sizesOf state) file in
       by-cases (λ (r : Reply × List ℕ). Effect state memory call (ofReply call memory (r .0) (r .1) []))
       (uploadCases state (length memory) slot ++ own) (λ n. (reply n state, memory))
-      (reply 0 state, bitmapDrawn (sizesOf state) memory slot file) refl
+      (drawnTo state slot (bitmapDrawn (sizesOf state) memory slot file)) refl
       (λ n e. refuses call (number n) e)
       (λ free.
       drawn call slot _ refl (none-parts (uploadCases state (length memory) slot) own free .0) (length-read b h (sizesOf state .stride) file))
@@ -162,27 +173,30 @@ module _ (state : State) (memory : List ℕ) where
       let parts = none-parts (storeCases state (length memory)) (beginOwn (state .store) slot) free in
       begins slot (tested state (length memory) (parts .0)) (fillable (state .store) slot (parts .1)))
 
-  fill-effect : (call : Call) (act : List ℕ → Fed × List ℕ) → Fills (sizesOf state) (state .store .fill) call act → outOf call ≡ []
-      → Effect state memory call (ofReply call memory (onFill state memory act .0) (onFill state memory act .1) [])
-  fill-effect call act kind none =
+  fill-effect : (call : Call) (act : List ℕ → Fed × List ℕ) (writes : Fed → Bool) → Fills (sizesOf state) (state .store .fill) call act writes
+      → outOf call ≡ []
+      → Effect state memory call (ofReply call memory (onFill state memory act writes .0) (onFill state memory act writes .1) [])
+  fill-effect call act writes kind none =
       by-cases (λ (r : Reply × List ℕ). Effect state memory call (ofReply call memory (r .0) (r .1) []))
       (fillCases state (length memory)) (λ n. (reply n state, memory)) _ refl
       (λ n e. subst (λ (out : List ℕ). Effect state memory call (leaving call memory (number n) state memory out)) none (refuses call (number n) e))
       (λ free.
       let parts = none-parts (storeCases state (length memory)) (fillOwn (state .store)) free in
-      fills call act kind (tested state (length memory) (parts .0)) (filling (state .store) (parts .1)))
+      fills call act writes kind (tested state (length memory) (parts .0)) (filling (state .store) (parts .1)))
 
   feed-effect : (chunk : List ℕ) → Effect state memory (feedFill chunk) (callOn state memory (feedFill chunk))
   unfolding fillFeed
-  feed-effect chunk = fill-effect (feedFill chunk) (feeding b h (sizesOf state .stride) (state .store .fill) chunk) (feeds chunk) refl
+  feed-effect chunk =
+      fill-effect (feedFill chunk) (feeding b h (sizesOf state .stride) (state .store .fill) chunk)
+      (chunkWrites (sizesOf state .stride) (state .store .fill)) (feeds chunk) refl
 
   finish-effect : Effect state memory finishFill (callOn state memory finishFill)
   unfolding fillFinish
-  finish-effect = fill-effect finishFill (finishing b h (sizesOf state .stride) (state .store .fill)) finishes refl
+  finish-effect = fill-effect finishFill (finishing b h (sizesOf state .stride) (state .store .fill)) finishWrites finishes refl
 
   cancel-effect : Effect state memory cancelFill (callOn state memory cancelFill)
   unfolding fillCancel
-  cancel-effect = fill-effect cancelFill (λ raw. cancelling b h) cancels refl
+  cancel-effect = fill-effect cancelFill (λ raw. cancelling b h) (λ fed. true) cancels refl
 
   start-effect : (slot : ℕ) (tick : Tick) → Effect state memory (start slot tick) (callOn state memory (start slot tick))
   unfolding starting
@@ -214,6 +228,14 @@ module _ (state : State) (memory : List ℕ) where
       (λ n e. refuses call (number n) e)
       (λ free. reads call _ refl (tested state (length memory) (none-parts (storeCases state (length memory)) _ free .0)))
 
+  summary-effect : (slot : ℕ) → Effect state memory (summary slot) (callOn state memory (summary slot))
+  unfolding slotSummary
+  summary-effect slot =
+      by-cases (λ (r : Summarised). Effect state memory (summary slot) (ofSummary (summary slot) memory r)) (summaryCases state slot)
+      (λ n. summarised n emptySummary state) (summarised 0 (getD (state .store .summaries) slot emptySummary) state) refl
+      (λ n e. refuses (summary slot) (summed n emptySummary) e)
+      (λ free. tells slot _ (told state slot free))
+
   -- ---- polls
 
   module _ (tick : Tick) (out : List ℕ) where
@@ -224,17 +246,17 @@ module _ (state : State) (memory : List ℕ) where
     refused-poll n e = refuses (poll tick out) (answered (answer.Refused n)) e
 
     of-run : (run : Run) → Tested state (length memory) → state .store .phase ≡ Running run
-        → Polls (inState state (pollRun (fileOf state) run tick memory out))
+        → Polls (inState state (run .slot) (pollRun (fileOf state) run tick memory out))
     unfolding pollRun pollAt
     of-run run t e =
         let moment : Passed = record { 0 = passedAt (run .passed) (run .last) tick } in
         let due = dueOf (fileOf state) run in
         let at : At state memory tick run moment = record { tests = t; runs = e; is = refl } in
-        by-cases (λ (o : Outcome). Polls (inState state o)) (pollCases run tick (length out))
+        by-cases (λ (o : Outcome). Polls (inState state (run .slot) o)) (pollCases run tick (length out))
         (λ n. outcome (answer.Refused n) (Running run) memory out) (pollAt (fileOf state) run tick moment memory out) refl
         (λ n f. subst (λ (p : Phase). Polls (polling (answer.Refused n) (withPhase state p) memory out)) e (refused-poll n f))
         (λ free.
-        by-test (λ (o : Outcome). Polls (inState state o)) (ltb (moment .0) due)
+        by-test (λ (o : Outcome). Polls (inState state (run .slot) o)) (ltb (moment .0) due)
         (outcome (answer.Wait (due - moment .0)) (Running (waited run tick moment)) memory out)
         (handOut (fileOf state) run tick moment memory out (run .next))
         (λ early. waits tick out run moment at (ltb-true _ _ early))
@@ -265,3 +287,4 @@ module _ (state : State) (memory : List ℕ) where
   effect (poll tick out) = poll-effect tick out
   effect abandon = abandon-effect
   effect (writeBitmap slot out) = write-effect slot out
+  effect (summary slot) = summary-effect slot

@@ -1,11 +1,11 @@
 -- What a call of a fill leaves, whichever it is: the slot being filled and the fill change, and nothing else.
 -- Assumes nothing.
-use mathlib.Core.Path.{_≡_, refl, ap, _∙_}
-use mathlib.Core.Bool.{Bool, true, false, cond, not}
+use mathlib.Core.Path.{_≡_, refl, sym, ap, _∙_}
+use mathlib.Core.Bool.{Bool, true, false, cond, not, false≢true}
 use mathlib.Core.List.{List, [], _∷_, _++_}
 use Prim.Native.Nat.{ℕ, _+_, _*_, _≤_}
 use native.Mathlib.Omega.{arith}
-use borrow.Author.Tests.{eqb-false, not-true}
+use borrow.Author.Tests.{eqb-true, eqb-false, not-true, not-false}
 use lib.Dec.{eqb}
 use lib.ListN.{length}
 use Rattle.panel.specs.Facts.{Sized}
@@ -22,21 +22,22 @@ use Rattle.fill.specs.declared.Fill.{Fill}
 use Rattle.fill.specs.declared.Fed.{Fed}
 use Rattle.bitmap.specs.Header.{fileLength}
 use Rattle.bitmap_prefix.specs.Begins.{beginsGood}
-use Rattle.fill.specs.Fills.{emptyFill, fillOf}
-use Rattle.fill.specs.Feeding.{fed, ended, feeding, finishing, cancelling}
+use Rattle.fill.specs.Fills.{emptyFill, rowsCome, fillOf}
+use Rattle.fill.specs.Feeding.{bytesFed, goesOn, fed, ended, feeding, finishing, cancelling}
 use Rattle.fill.specs.Conditions.{fillValid}
 use Rattle.fill.proofs.Kept.{long, Stands, stands, valid-kept, valid-ended}
 use Rattle.fill.proofs.SoFar.{fill-so-far}
+use Rattle.fill.proofs.Written.{chunk-unwritten}
 use Rattle.fill.proofs.Sizes.{length-fed, length-finished, rows-cancelled}
 use Rattle.board.specs.State.{fileOf, sizesOf}
-use Rattle.board.specs.Calls.{isFilling}
+use Rattle.board.specs.Calls.{isFilling, chunkWrites, finishWrites}
 use Rattle.board.specs.History.{Call, noPart, partOf, outOf}
 use Rattle.board.specs.declared.State.{State}
 use Rattle.board.proofs.States.{Tested, valid-state}
 use Rattle.board.proofs.Effects.{Fills, feeds, finishes, cancels, filledTo}
 
 -- it has no part in a run
-pub fills-apart : {shape : Shape} {fill : Fill} {call : Call} {act : List ℕ → Fed × List ℕ} → Fills shape fill call act → partOf call ≡ noPart
+pub fills-apart : {shape : Shape} {fill : Fill} {call : Call} {act : List ℕ → Fed × List ℕ} {writes : Fed → Bool} → Fills shape fill call act writes → partOf call ≡ noPart
 fills-apart (feeds chunk) = refl
 fills-apart finishes = refl
 fills-apart cancels = refl
@@ -46,7 +47,7 @@ pub filled-low : (fill : Fill) → isFilling fill ≡ true → 1 ≤ fill .slot
 filled-low fill is = let n : (fill .slot ≡ 0 → ⊥) = eqb-false (fill .slot) 0 (not-true _ is) in omega (arith, n)
 
 -- the slot stays as long as it is
-pub act-length : {shape : Shape} {fill : Fill} {call : Call} {act : List ℕ → Fed × List ℕ} → Fills shape fill call act → Sized shape
+pub act-length : {shape : Shape} {fill : Fill} {call : Call} {act : List ℕ → Fed × List ℕ} {writes : Fed → Bool} → Fills shape fill call act writes → Sized shape
     → fillValid (shape .bytes) (shape .rows) (shape .stride) fill ≡ true
     → (raw : List ℕ) → length raw ≡ shape .rows * shape .bytes → length (act raw .1) ≡ shape .rows * shape .bytes
 act-length {shape} {fill} (feeds chunk) z valid raw size =
@@ -58,7 +59,7 @@ act-length {shape} {fill} cancels z valid raw size =
     rows-cancelled (shape .bytes) (shape .rows) (shape .stride) (z .some) (z .narrow) (z .within) (z .small) .0
 
 -- and the fill valid
-pub act-valid : {shape : Shape} {fill : Fill} {call : Call} {act : List ℕ → Fed × List ℕ} → Fills shape fill call act → Sized shape
+pub act-valid : {shape : Shape} {fill : Fill} {call : Call} {act : List ℕ → Fed × List ℕ} {writes : Fed → Bool} → Fills shape fill call act writes → Sized shape
     → fillValid (shape .bytes) (shape .rows) (shape .stride) fill ≡ true → isFilling fill ≡ true → (raw : List ℕ)
     → fillValid (shape .bytes) (shape .rows) (shape .stride) (act raw .0 .fill) ≡ true
 act-valid {shape} {fill} (feeds chunk) z valid is raw =
@@ -69,7 +70,7 @@ act-valid {shape} {fill} cancels z valid is raw =
     valid-ended (shape .bytes) (shape .rows) (shape .stride) (z .some) (z .narrow) (z .within) (z .small) (z .low) fill raw .1
 
 -- of the same slot, or of none
-pub act-slot : {shape : Shape} {fill : Fill} {call : Call} {act : List ℕ → Fed × List ℕ} → Fills shape fill call act → Sized shape
+pub act-slot : {shape : Shape} {fill : Fill} {call : Call} {act : List ℕ → Fed × List ℕ} {writes : Fed → Bool} → Fills shape fill call act writes → Sized shape
     → fillValid (shape .bytes) (shape .rows) (shape .stride) fill ≡ true → (raw : List ℕ)
     → (P : ℕ → Type 0) → P (fill .slot) → P 0 → P (act raw .0 .fill .slot)
 unfolding finishing cancelling fillOf
@@ -101,6 +102,40 @@ act-slot {shape} {fill} finishes z valid raw P same none = go (eqb (fill .came) 
     go false = none
 act-slot {shape} {fill} cancels z valid raw P same none = none
 
+-- where it is known that the bytes were not written, they are as they were
+pub act-unwritten : {shape : Shape} {fill : Fill} {call : Call} {act : List ℕ → Fed × List ℕ} {writes : Fed → Bool}
+    → Fills shape fill call act writes → Sized shape → (raw : List ℕ) → writes (act raw .0) ≡ false → act raw .1 ≡ raw
+unfolding feeding finishing
+act-unwritten {shape} {fill} (feeds chunk) z raw = go (goesOn b h s fill chunk)
+  where
+    b : ℕ
+    b = shape .bytes
+
+    h : ℕ
+    h = shape .rows
+
+    s : ℕ
+    s = shape .stride
+
+    after : Fill × List ℕ
+    after = bytesFed b h s (fill, raw) chunk
+
+    go : (t : Bool)
+        → chunkWrites s fill (firstOf {A = Fed × List ℕ} (case (not t) 4 ∷ []) (ended b h) (fed 0 (after .0), after .1) .0) ≡ false
+        → firstOf {A = Fed × List ℕ} (case (not t) 4 ∷ []) (ended b h) (fed 0 (after .0), after .1) .1 ≡ raw
+    go false e = absurd (false≢true (sym e))
+    go true e =
+        let same = eqb-true _ _ (not-false (eqb (rowsCome s (after .0 .came)) (rowsCome s (fill .came))) e) in
+        chunk-unwritten b h s (omega (arith, z .some, z .within)) chunk (fill, raw) same
+act-unwritten {shape} {fill} finishes z raw = go (eqb (fill .came) (fileLength (shape .rows) (shape .stride)))
+  where
+    go : (t : Bool)
+        → finishWrites (firstOf {A = Fed × List ℕ} (case (not t) 4 ∷ []) (ended (shape .bytes) (shape .rows)) (fed 0 emptyFill, raw) .0) ≡ false
+        → firstOf {A = Fed × List ℕ} (case (not t) 4 ∷ []) (ended (shape .bytes) (shape .rows)) (fed 0 emptyFill, raw) .1 ≡ raw
+    go true e = refl
+    go false e = absurd (false≢true (sym e))
+act-unwritten cancels z raw = λ e. absurd (false≢true (sym e))
+
 module _ (state : State) (memory : List ℕ) (t : Tested state (length memory)) where
   abbrev b : ℕ
   b = sizesOf state .bytes
@@ -122,7 +157,8 @@ module _ (state : State) (memory : List ℕ) (t : Tested state (length memory)) 
   unfolding slotBytes
   filled-length = part-length (slot * (h * b)) (h * b) memory filled-inside
 
-  module _ {call : Call} {act : List ℕ → Fed × List ℕ} (kind : Fills (sizesOf state) (state .store .fill) call act) where
+  module _ {call : Call} {act : List ℕ → Fed × List ℕ} {writes : Fed → Bool}
+      (kind : Fills (sizesOf state) (state .store .fill) call act writes) where
     abbrev left : List ℕ
     left = act (slotBytes b h memory slot) .1
 
@@ -130,12 +166,12 @@ module _ (state : State) (memory : List ℕ) (t : Tested state (length memory)) 
     left-length = act-length kind sized (valid-state state (t .valid) .fill-good) (slotBytes b h memory slot) filled-length
 
     -- the memory stays as long as it is, the slot holds what is left, and every other slot what it held
-    pub filled-memory : length (filledTo state memory call act .memory) ≡ length memory
+    pub filled-memory : length (filledTo state memory call act writes .memory) ≡ length memory
     filled-memory = length-with b h memory slot filled-inside left left-length
 
-    pub filled-bytes : slotBytes b h (filledTo state memory call act .memory) slot ≡ left
+    pub filled-bytes : slotBytes b h (filledTo state memory call act writes .memory) slot ≡ left
     filled-bytes = bytes-same b h memory slot filled-inside left left-length
 
-    pub filled-others : (u : ℕ) → (u ≡ slot → ⊥) → slotPicture b h (filledTo state memory call act .memory) u ≡ slotPicture b h memory u
+    pub filled-others : (u : ℕ) → (u ≡ slot → ⊥) → slotPicture b h (filledTo state memory call act writes .memory) u ≡ slotPicture b h memory u
     unfolding slotPicture
     filled-others u n = ap (pictureOf b h) (bytes-other b h memory slot filled-inside left left-length u n)

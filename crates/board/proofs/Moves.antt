@@ -17,6 +17,7 @@ use Rattle.picture.proofs.Slots.{others-kept, copied}
 use Rattle.balance.specs.Sums.{pictureOfStage}
 use Rattle.balance.proofs.Stores.{Dots, Place, line, allOut, nextPlace, View, Move}
 use Rattle.balance.proofs.Stores as moves
+use Rattle.summary.specs.declared.Summary.{Summary}
 use Rattle.run.specs.Due.{runFrames, dueOf}
 use Rattle.run.specs.Runs.{begun, waited, moved}
 use Rattle.run.specs.declared.Tick.{Tick}
@@ -31,9 +32,9 @@ use Rattle.poll.specs.Answers.{answerNumber, putOut}
 use Rattle.poll.specs.HandOut.{Outcome, outcome, stepBytes, lineBytes, sendWrite, sendLine, handStart, handStop, handOut}
 use Rattle.poll.specs.declared.Answer.{Answer}
 use Rattle.poll.specs.declared.Answer.the-variants as answer
-use Rattle.board.specs.State.{fileOf, sizesOf, withPhase, storeBytes}
+use Rattle.board.specs.State.{fileOf, sizesOf, withPhase, withSummaries, storeBytes}
 use Rattle.board.specs.Calls.{isRunning, isAbandoned, inState}
-use Rattle.board.specs.History.{Call, start, poll, abandon, Part, starts, polls, abandons, noPart, partOf, Given, number, answered, isAccepted, isDoneAnswer, isDone, abandoned, underWay, Seen, afterDone, afterCall, Called, ofPoll}
+use Rattle.board.specs.History.{Call, start, poll, abandon, summary, Part, starts, polls, abandons, noPart, partOf, Given, number, answered, summed, isAccepted, isDoneAnswer, isDone, abandoned, underWay, Seen, afterDone, afterCall, Called, ofPoll}
 use Rattle.board.specs.declared.State.{State}
 use Rattle.board.proofs.States.{Tested, valid-state, run-of}
 use Rattle.board.proofs.Tests.{Uploadable, Startable}
@@ -169,6 +170,7 @@ refused-seen : (b h : ℕ) (memory : List ℕ) (seen : Seen) (part : Part) (give
 refused-seen b h memory seen (starts slot tick) given e = rw e
 refused-seen b h memory seen (polls tick) (number n) e = refl
 refused-seen b h memory seen (polls tick) (answered given) e = rw (not-done given e)
+refused-seen b h memory seen (polls tick) (summed n held) e = refl
 refused-seen b h memory seen abandons given e = rw e
 refused-seen b h memory seen noPart given e = refl
 
@@ -185,16 +187,17 @@ module _ (state : State) (memory : List ℕ) (seen : Seen) (view : View)
   abbrev OneMoveTo : Called → Type 0
   OneMoveTo = OneMove (fileOf state) view seen
 
-  -- the memory, or the output, may change where nothing depends on it
-  apart : (call : Call) (memory′ : List ℕ) → partOf call ≡ noPart → AgreeIn (fileOf state) (state .store .phase) memory′ seen view
-      → (out′ : List ℕ) → OneMoveTo (effects.leaving call memory (number 0) state memory′ out′)
-  apart call memory′ e kept out′ = record { file-kept = refl; leads = rw e (no-move (fileOf state) kept) }
+  -- the summaries, the memory or the output may change where nothing depends on it
+  apart : (call : Call) (given : Given) (summaries : List Summary) (memory′ : List ℕ) → partOf call ≡ noPart
+      → AgreeIn (fileOf state) (state .store .phase) memory′ seen view → (out′ : List ℕ)
+      → OneMoveTo (effects.leaving call memory given (withSummaries state summaries) memory′ out′)
+  apart call given summaries memory′ e kept out′ = record { file-kept = refl; leads = rw e (no-move (fileOf state) kept) }
 
   module _ (tick : Tick) (out : List ℕ) (run : Run) (moment : Passed) (at : At state memory tick run moment) where
     running : AgreeIn (fileOf state) (Running run) memory seen view
     running = subst (λ (p : Phase). AgreeIn (fileOf state) p memory seen view) (at .runs) agree
 
-    in-state : (o : Outcome) → Moved (fileOf state) memory seen view o → OneMoveTo (polledTo state memory tick out o)
+    in-state : (o : Outcome) → Moved (fileOf state) memory seen view o → OneMoveTo (polledTo state memory run tick out o)
     in-state (outcome given phase memory′ out′) leads = record { file-kept = refl; leads = leads }
 
     waiting : (ms : ℕ) {v : View} → Sees b₁ h₁ memory (Running run) v
@@ -215,14 +218,15 @@ module _ (state : State) (memory : List ℕ) (seen : Seen) (view : View)
   pub one-move : {call : Call} {called : Called} → Effect state memory call called → OneMoveTo called
   one-move (effects.refuses call given e) =
       record { file-kept = refl; leads = rw (refused-seen b₁ h₁ memory seen (partOf call) given e) (no-move (fileOf state) agree) }
-  one-move (effects.reads call out′ e t) = apart call memory e agree out′
+  one-move (effects.reads call out′ e t) = apart call (number 0) (state .store .summaries) memory e agree out′
+  one-move (effects.tells slot held t) = apart (summary slot) (summed 0 held) (state .store .summaries) memory refl agree []
   one-move (effects.draws call slot picture e t may long) =
-      apart call (withPicture b₁ h₁ memory slot picture) e
+      apart call (number 0) _ (withPicture b₁ h₁ memory slot picture) e
       (agree-other b₁ h₁ (state .store .phase) memory (withPicture b₁ h₁ memory slot picture) slot (may .takes .low) (may .not-runs)
       (others-kept b₁ h₁ (state .store .slots) memory (t .exact) slot (may .takes .high) picture long) agree) _
   one-move (effects.begins slot t may) = record { file-kept = refl; leads = no-move (fileOf state) agree }
-  one-move (effects.fills call act kind t is) =
-      let memory′ = filledTo state memory call act .memory in
+  one-move (effects.fills call act writes kind t is) =
+      let memory′ = filledTo state memory call act writes .memory in
       record {
         file-kept = refl;
         leads =

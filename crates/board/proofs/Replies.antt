@@ -1,23 +1,27 @@
 -- What each call replies, by its number.
 -- Assumes nothing.
 use mathlib.Core.Path.{_≡_, refl, sym, ap, _∙_}
-use mathlib.Core.Bool.{true, false}
-use mathlib.Core.List.{List, _++_}
-use Prim.Native.Nat.{ℕ, _≤_, _<_}
+use mathlib.Core.Bool.{Bool, true, false, not}
+use mathlib.Core.List.{List, [], _∷_, _++_}
+use Prim.Native.Nat.{ℕ, _-_, _≤_, _<_}
+use native.Mathlib.Nat.{zero-div}
 use native.Mathlib.Omega.{arith}
-use borrow.Author.Tests.{le-leb, lt-leb, eq-eqb, ne-eqb, eqb-true, not-false}
-use lib.ListN.{length, replicate, length-replicate}
+use borrow.Author.Tests.{ltb-true, le-leb, lt-leb, eq-eqb, ne-eqb, eqb-true, not-false}
+use lib.Dec.{eqb, ltb}
+use lib.ListN.{length, getD, replicate, length-replicate}
 use Rattle.lists.specs.Lists.{overlayAt}
-use Rattle.lists.specs.Rules.{Case, firstOf}
-use Rattle.lists.proofs.Rules.{None, past, and-left, taken, some-number, none-of, some-append, none-append, first-map}
+use Rattle.lists.specs.Rules.{Case, case, firstOf}
+use Rattle.lists.proofs.Rules.{None, past, and-left, and-right, numbered, taken, some-number, none-of, some-append, none-append}
 use Rattle.lists.proofs.Lists.{overlay-whole}
 use Rattle.panel.specs.declared.Shape.{Shape}
 use Rattle.settings.specs.Settings.{settingsGood, shapeIn, longestFile}
 use Rattle.settings.specs.declared.Plan.{Plan}
 use Rattle.settings.proofs.Accepted.{good-short}
 use Rattle.picture.specs.Regions.{regionCases}
-use Rattle.bitmap.specs.Header.{fileLength}
+use Rattle.bitmap.specs.Header.{headerLength, fileLength}
 use Rattle.bitmap.specs.Bitmap.{bitmapGood}
+use Rattle.summary.specs.Summaries.{emptySummary}
+use Rattle.summary.specs.declared.Summary.{Summary}
 use Rattle.run.specs.Runs.{begun}
 use Rattle.run.specs.declared.Run.{Run}
 use Rattle.run.specs.declared.Tick.{Tick}
@@ -26,15 +30,18 @@ use Rattle.run.specs.declared.Phase.the-variants.{Abandoned, Running}
 use Rattle.poll.specs.HandOut.{outcome}
 use Rattle.poll.specs.declared.Answer.{Answer}
 use Rattle.poll.specs.declared.Answer.the-variants.{Refused}
-use Rattle.fill.specs.Fills.{begunFill}
+use Rattle.poll.specs.declared.Handed.{Handed}
+use Rattle.fill.specs.Fills.{begunFill, rowsCome}
 use Rattle.fill.specs.Feeding.{feeding, finishing, cancelling}
 use Rattle.fill.specs.declared.Fill.{Fill}
 use Rattle.fill.specs.declared.Fed.{Fed}
-use Rattle.board.specs.State.{sizesOf, withPhase, withFill, storeBytes, storeCases, emptyState, openedState}
-use Rattle.board.specs.Calls.{reply, openCases, opening, uploadCases, regionDrawn, bitmapCases, bitmapDrawn, regionUpload, bitmapUpload, beginCases, fillBegin, fillCases, onSlot, fedReply, onFill, fillFeed, fillFinish, fillCancel, startCases, starting, abandonCases, abandoning, polling, inState, pollPhase, polled, writeCases, bitmapWritten, bitmapWrite}
-use Rattle.board.specs.Facts.{bitmapPlaced, regionPlaced}
+use Rattle.board.specs.State.{sizesOf, setPhase, setFill, setSummaries, withStore, withPhase, withFill, storeBytes, storeCases, emptyState, openedState}
+use Rattle.board.specs.Calls.{reply, openCases, opening, uploadCases, regionDrawn, bitmapCases, bitmapDrawn, countedIn, drawnTo, regionUpload, bitmapUpload, beginCases, fillBegin, fillCases, onSlot, fedReply, onFill, chunkWrites, finishWrites, fillFeed, fillFinish, fillCancel, startCases, starting, abandonCases, abandoning, polling, summariesAfter, inState, pollPhase, polled, writeCases, bitmapWritten, bitmapWrite, summaryCases, summarised, slotSummary}
+use Rattle.board.specs.Facts.{bitmapPlaced, regionPlaced, drawnReply, leftBy}
 use Rattle.board.specs.declared.State.{State}
+use Rattle.board.specs.declared.Store.{Store}
 use Rattle.board.specs.declared.Reply.{Reply}
+use Rattle.board.specs.declared.runs.Left.{Left}
 
 -- ---- opening
 
@@ -118,35 +125,59 @@ module _ (shape : Shape) (memory : List ℕ) (slot x y width height : ℕ) (payl
       ap (λ (l : List ℕ). (0, l)) e
       ∙ sym (taken own (λ n. (n, memory)) (0, regionDrawn shape memory slot x y width height payload) (none-of own refl is z))
 
+-- one more thing done to every answer, where it is known what is done to a refusal
+first-numbered : {A B : Type 0} (g : A → B) (cs : List Case) → numbered cs ≡ true → (refused : ℕ → A) (refused′ : ℕ → B) (accepted : A)
+    → ((n : ℕ) → eqb n 0 ≡ false → g (refused n) ≡ refused′ n) → g (firstOf cs refused accepted) ≡ firstOf cs refused′ (g accepted)
+first-numbered g [] p refused refused′ accepted same = refl
+first-numbered g (case true n ∷ cs) p refused refused′ accepted same =
+    let some : 0 < n = ltb-true 0 n (and-left (ltb 0 n) (numbered cs) p) in
+    same n (ne-eqb n 0 (λ z. absurd (omega arith)))
+first-numbered g (case false n ∷ cs) p refused refused′ accepted same =
+    first-numbered g cs (and-right (ltb 0 n) (numbered cs) p) refused refused′ accepted same
+
+-- the reply to what was drawn, or was refused
+pub drawn-refused : (shape : Shape) (state : State) (memory : List ℕ) (slot number : ℕ) → (number ≡ 0 → ⊥)
+    → reply number state ≡ drawnReply shape state memory slot number
+drawn-refused shape state memory slot number d = rw (ne-eqb number 0 d)
+
+pub drawn-counted : (shape : Shape) (state : State) (memory : List ℕ) (slot number : ℕ) → number ≡ 0 → {counts : List Summary}
+    → counts ≡ countedIn shape memory slot (state .store .summaries) → {store : Store} → store ≡ setSummaries (state .store) counts
+    → {after : State} → after ≡ withStore state store → reply 0 after ≡ drawnReply shape state memory slot number
+drawn-counted shape state memory slot number z e f g = rw (z, g, f, e)
+
 module _ (state : State) (memory : List ℕ) (slot : ℕ) {r : ℕ}
     (is : r ≡ firstOf (uploadCases state (length memory) slot) (λ n. n) 0) where
-  -- a number and a memory in a reply
+  -- the reply to a number and a memory
   abbrev replied : ℕ × List ℕ → Reply × List ℕ
-  replied p = (reply (p .0) state, p .1)
+  replied p = (drawnReply (sizesOf state) state (p .1) slot (p .0), p .1)
 
   -- what was put into the slot of these cases, and its number, is the reply of both
-  placed : (more : List Case) (after : List ℕ) → r ≡ 0 → {n : ℕ} {left : List ℕ}
+  placed : (more : List Case) → numbered more ≡ true → (after : List ℕ) → r ≡ 0 → {shape : Shape} → shape ≡ sizesOf state
+      → {n : ℕ} {left : List ℕ} {given : Reply} → given ≡ drawnReply shape state left slot n
       → _≡_ {A = ℕ × List ℕ} (n, left) (firstOf more (λ k. (k, memory)) (0, after))
-      → _≡_ {A = Reply × List ℕ} (reply n state, left)
-      (firstOf (uploadCases state (length memory) slot ++ more) (λ k. (reply k state, memory)) (reply 0 state, after))
-  placed more after z e =
+      → _≡_ {A = Reply × List ℕ} (given, left)
+      (firstOf (uploadCases state (length memory) slot ++ more) (λ k. (reply k state, memory)) (drawnTo state slot after))
+  placed more p after z sizes {n} {left} q e =
       let cases = uploadCases state (length memory) slot in
-      ap replied e
-      ∙ first-map replied more (λ k. (k, memory)) (0, after)
-      ∙ none-append cases more (λ k. (reply k state, memory)) (reply 0 state, after) (none-of cases refl is z)
+      ap (λ (g : Reply). (g, left)) q
+      ∙ ap (λ (s : Shape). (drawnReply s state left slot n, left)) sizes
+      ∙ ap replied e
+      ∙ first-numbered replied more p (λ k. (k, memory)) (λ k. (reply k state, memory)) (0, after) (λ k d. rw d)
+      ∙ none-append cases more (λ k. (reply k state, memory)) (drawnTo state slot after) (none-of cases refl is z)
 
   module _ (file : List ℕ) where
     pub bitmap-upload-refused : (r ≡ 0 → ⊥) → (reply r state, memory) ≡ bitmapUpload state memory slot file
     unfolding bitmapUpload
     bitmap-upload-refused =
         some-append (uploadCases state (length memory) slot) (bitmapCases (sizesOf state) file) (λ n. (reply n state, memory))
-        (reply 0 state, bitmapDrawn (sizesOf state) memory slot file) is
+        (drawnTo state slot (bitmapDrawn (sizesOf state) memory slot file)) is
 
-    pub bitmap-uploaded : r ≡ 0 → {shape : Shape} → shape ≡ sizesOf state → {n : ℕ} {after : List ℕ}
-        → (n, after) ≡ bitmapPlaced shape memory slot file → (reply n state, after) ≡ bitmapUpload state memory slot file
+    pub bitmap-uploaded : r ≡ 0 → {shape : Shape} → shape ≡ sizesOf state → {n : ℕ} {after : List ℕ} {given : Reply}
+        → given ≡ drawnReply shape state after slot n → (n, after) ≡ bitmapPlaced shape memory slot file
+        → (given, after) ≡ bitmapUpload state memory slot file
     unfolding bitmapUpload
-    bitmap-uploaded z sizes e =
-        placed (bitmapCases (sizesOf state) file) (bitmapDrawn (sizesOf state) memory slot file) z
+    bitmap-uploaded z sizes q e =
+        placed (bitmapCases (sizesOf state) file) refl (bitmapDrawn (sizesOf state) memory slot file) z sizes q
         (e ∙ ap (λ (s : Shape). bitmapPlaced s memory slot file) sizes)
 
   module _ (x y width height : ℕ) (payload : List ℕ) where
@@ -157,14 +188,14 @@ module _ (state : State) (memory : List ℕ) (slot : ℕ) {r : ℕ}
     unfolding regionUpload
     region-upload-refused =
         some-append (uploadCases state (length memory) slot) region (λ n. (reply n state, memory))
-        (reply 0 state, regionDrawn (sizesOf state) memory slot x y width height payload) is
+        (drawnTo state slot (regionDrawn (sizesOf state) memory slot x y width height payload)) is
 
-    pub region-uploaded : r ≡ 0 → {shape : Shape} → shape ≡ sizesOf state → {n : ℕ} {after : List ℕ}
-        → (n, after) ≡ regionPlaced shape memory slot x y width height payload
-        → (reply n state, after) ≡ regionUpload state memory slot x y width height payload
+    pub region-uploaded : r ≡ 0 → {shape : Shape} → shape ≡ sizesOf state → {n : ℕ} {after : List ℕ} {given : Reply}
+        → given ≡ drawnReply shape state after slot n → (n, after) ≡ regionPlaced shape memory slot x y width height payload
+        → (given, after) ≡ regionUpload state memory slot x y width height payload
     unfolding regionUpload
-    region-uploaded z sizes e =
-        placed region (regionDrawn (sizesOf state) memory slot x y width height payload) z
+    region-uploaded z sizes q e =
+        placed region refl (regionDrawn (sizesOf state) memory slot x y width height payload) z sizes q
         (e ∙ ap (λ (s : Shape). regionPlaced s memory slot x y width height payload) sizes)
 
 -- ---- fills
@@ -175,69 +206,105 @@ module _ (state : State) (m slot : ℕ) {r : ℕ} (is : r ≡ firstOf (beginCase
   begin-refused =
       some-number (beginCases state m slot) (λ number. reply number state) (reply 0 (withFill state (begunFill slot))) is
 
-  pub begin-accepted : {fill : Fill} {after : State} → fill ≡ begunFill slot → after ≡ withFill state fill → r ≡ 0
-      → reply 0 after ≡ fillBegin state m slot
+  pub begin-accepted : {fill : Fill} {store : Store} {after : State} → fill ≡ begunFill slot → store ≡ setFill (state .store) fill
+      → after ≡ withStore state store → r ≡ 0 → reply 0 after ≡ fillBegin state m slot
   unfolding fillBegin
-  begin-accepted e f z =
-      rw (f, e)
+  begin-accepted e f g z =
+      rw (g, f, e)
       (sym
       (taken (beginCases state m slot) (λ number. reply number state) (reply 0 (withFill state (begunFill slot)))
       (none-of (beginCases state m slot) refl is z)))
 
+-- whether a chunk wrote the slot
+pub rows-none : (s came : ℕ) → came < headerLength → 0 ≡ rowsCome s came
+rows-none s came l = let e : came - headerLength ≡ 0 = omega arith in sym (rw e (zero-div s))
+
+module _ (s : ℕ) (before : Fill) (fed : Fed) where
+  pub chunk-refused : (fed .number ≡ 0 → ⊥) → true ≡ chunkWrites s before fed
+  chunk-refused d = rw (ne-eqb (fed .number) 0 d)
+
+  pub chunk-rows : fed .number ≡ 0 → {now old : ℕ} → now ≡ rowsCome s (fed .fill .came) → old ≡ rowsCome s (before .came)
+      → not (eqb now old) ≡ chunkWrites s before fed
+  chunk-rows z e f = rw (z, e, f)
+
+-- the reply to what was done to the slot being filled: where it was not written, and where it was
+module _ (shape : Shape) (state : State) (memory : List ℕ) (fed : Fed) {filled : Store} (e : filled ≡ setFill (state .store) (fed .fill)) where
+  pub fed-unwritten : (wrote : Bool) → wrote ≡ false → {after : State} → after ≡ withStore state filled
+      → reply (fed .number) after ≡ fedReply shape state wrote memory fed
+  fed-unwritten wrote w f = rw (w, f, e)
+
+  pub fed-written : (wrote : Bool) → wrote ≡ true → {counts : List Summary}
+      → counts ≡ countedIn shape memory (state .store .fill .slot) (filled .summaries)
+      → {store : Store} → store ≡ setSummaries filled counts → {after : State} → after ≡ withStore state store
+      → reply (fed .number) after ≡ fedReply shape state wrote memory fed
+  fed-written wrote w g f h = rw (w, h, f, g, e)
+
 module _ (state : State) (memory : List ℕ) {r : ℕ} (is : r ≡ firstOf (fillCases state (length memory)) (λ n. n) 0) where
   -- the reply to what is done to the slot being filled
-  abbrev fed-on : (act : List ℕ → Fed × List ℕ) → Reply × List ℕ
-  fed-on act =
+  abbrev fed-on : (act : List ℕ → Fed × List ℕ) (writes : Fed → Bool) → Reply × List ℕ
+  fed-on act writes =
       let d = onSlot (sizesOf state) memory (state .store .fill .slot) act in
-      (fedReply state (d .0), d .1)
+      (fedReply (sizesOf state) state (writes (d .0)) (d .1) (d .0), d .1)
 
-  refused-fill : (act : List ℕ → Fed × List ℕ) → (r ≡ 0 → ⊥) → (reply r state, memory) ≡ onFill state memory act
-  refused-fill act = some-number (fillCases state (length memory)) (λ number. (reply number state, memory)) (fed-on act) is
+  refused-fill : (act : List ℕ → Fed × List ℕ) (writes : Fed → Bool) → (r ≡ 0 → ⊥)
+      → (reply r state, memory) ≡ onFill state memory act writes
+  refused-fill act writes =
+      some-number (fillCases state (length memory)) (λ number. (reply number state, memory)) (fed-on act writes) is
 
-  done-fill : (act : Shape → List ℕ → Fed × List ℕ) → r ≡ 0 → {shape : Shape} → shape ≡ sizesOf state
-      → {fed : Fed} {after : List ℕ} {given : Reply} → given ≡ fedReply state fed
+  done-fill : (act : Shape → List ℕ → Fed × List ℕ) (writes : Shape → Fed → Bool) → r ≡ 0 → {shape : Shape} → shape ≡ sizesOf state
+      → {fed : Fed} {after : List ℕ} {wrote : Bool} {given : Reply} → wrote ≡ writes shape fed
+      → given ≡ fedReply shape state wrote after fed
       → (fed, after) ≡ onSlot shape memory (state .store .fill .slot) (act shape)
-      → (given, after) ≡ onFill state memory (act (sizesOf state))
-  done-fill act z sizes {fed} {after} {given} e f =
+      → (given, after) ≡ onFill state memory (act (sizesOf state)) (writes (sizesOf state))
+  done-fill act writes z {shape} sizes {fed} {after} {wrote} {given} w e f =
       let g : _≡_ {A = Fed × List ℕ} (fed, after) (onSlot (sizesOf state) memory (state .store .fill .slot) (act (sizesOf state))) =
       f ∙ ap (λ (s : Shape). onSlot s memory (state .store .fill .slot) (act s)) sizes in
-      ap (λ (q : Reply). (q, after)) e
-      ∙ ap (λ (d : Fed × List ℕ). (fedReply state (d .0), d .1)) g
+      ap (λ (q : Reply). (q, after)) (e ∙ ap (λ (t : Bool). fedReply shape state t after fed) w)
+      ∙ ap (λ (s : Shape). (fedReply s state (writes s fed) after fed, after)) sizes
+      ∙ ap (λ (d : Fed × List ℕ). (fedReply (sizesOf state) state (writes (sizesOf state) (d .0)) (d .1) (d .0), d .1)) g
       ∙ sym
-      (taken (fillCases state (length memory)) (λ number. (reply number state, memory)) (fed-on (act (sizesOf state)))
+      (taken (fillCases state (length memory)) (λ number. (reply number state, memory)) (fed-on (act (sizesOf state)) (writes (sizesOf state)))
       (none-of (fillCases state (length memory)) refl is z))
 
   pub feed-refused : (chunk : List ℕ) → (r ≡ 0 → ⊥) → (reply r state, memory) ≡ fillFeed state memory chunk
   unfolding fillFeed
-  feed-refused chunk = refused-fill (feeding (sizesOf state .bytes) (sizesOf state .rows) (sizesOf state .stride) (state .store .fill) chunk)
+  feed-refused chunk =
+      refused-fill (feeding (sizesOf state .bytes) (sizesOf state .rows) (sizesOf state .stride) (state .store .fill) chunk)
+      (chunkWrites (sizesOf state .stride) (state .store .fill))
 
   pub finish-refused : (r ≡ 0 → ⊥) → (reply r state, memory) ≡ fillFinish state memory
   unfolding fillFinish
-  finish-refused = refused-fill (finishing (sizesOf state .bytes) (sizesOf state .rows) (sizesOf state .stride) (state .store .fill))
+  finish-refused =
+      refused-fill (finishing (sizesOf state .bytes) (sizesOf state .rows) (sizesOf state .stride) (state .store .fill)) finishWrites
 
   pub cancel-refused : (r ≡ 0 → ⊥) → (reply r state, memory) ≡ fillCancel state memory
   unfolding fillCancel
-  cancel-refused = refused-fill (λ raw. cancelling (sizesOf state .bytes) (sizesOf state .rows))
+  cancel-refused = refused-fill (λ raw. cancelling (sizesOf state .bytes) (sizesOf state .rows)) (λ fed. true)
 
-  module _ (z : r ≡ 0) {shape : Shape} (sizes : shape ≡ sizesOf state) {fed : Fed} {after : List ℕ} {given : Reply}
-      (e : given ≡ fedReply state fed) where
-    pub fed-replied : (chunk : List ℕ)
+  module _ (z : r ≡ 0) {shape : Shape} (sizes : shape ≡ sizesOf state) {fed : Fed} {after : List ℕ} {wrote : Bool} {given : Reply}
+      (e : given ≡ fedReply shape state wrote after fed) where
+    pub fed-replied : (chunk : List ℕ) → wrote ≡ chunkWrites (shape .stride) (state .store .fill) fed
         → (fed, after)
         ≡ onSlot shape memory (state .store .fill .slot) (feeding (shape .bytes) (shape .rows) (shape .stride) (state .store .fill) chunk)
         → (given, after) ≡ fillFeed state memory chunk
     unfolding fillFeed
-    fed-replied chunk = done-fill (λ s. feeding (s .bytes) (s .rows) (s .stride) (state .store .fill) chunk) z sizes e
+    fed-replied chunk w =
+        done-fill (λ s. feeding (s .bytes) (s .rows) (s .stride) (state .store .fill) chunk) (λ s. chunkWrites (s .stride) (state .store .fill))
+        z sizes w e
 
-    pub finish-replied : (fed, after)
+    pub finish-replied : wrote ≡ finishWrites fed
+        → (fed, after)
         ≡ onSlot shape memory (state .store .fill .slot) (finishing (shape .bytes) (shape .rows) (shape .stride) (state .store .fill))
         → (given, after) ≡ fillFinish state memory
     unfolding fillFinish
-    finish-replied = done-fill (λ s. finishing (s .bytes) (s .rows) (s .stride) (state .store .fill)) z sizes e
+    finish-replied w =
+        done-fill (λ s. finishing (s .bytes) (s .rows) (s .stride) (state .store .fill)) (λ s. finishWrites) z sizes w e
 
-    pub cancel-replied : (fed, after) ≡ onSlot shape memory (state .store .fill .slot) (λ raw. cancelling (shape .bytes) (shape .rows))
+    pub cancel-replied : wrote ≡ true
+        → (fed, after) ≡ onSlot shape memory (state .store .fill .slot) (λ raw. cancelling (shape .bytes) (shape .rows))
         → (given, after) ≡ fillCancel state memory
     unfolding fillCancel
-    cancel-replied = done-fill (λ s raw. cancelling (s .bytes) (s .rows)) z sizes e
+    cancel-replied w = done-fill (λ s raw. cancelling (s .bytes) (s .rows)) (λ s fed. true) z sizes w e
 
 -- ---- start and abandon
 
@@ -247,11 +314,12 @@ module _ (state : State) (m slot : ℕ) (tick : Tick) {r : ℕ} (is : r ≡ firs
   start-refused =
       some-number (startCases state m slot) (λ number. reply number state) (reply 0 (withPhase state (Running (begun slot tick)))) is
 
-  pub start-accepted : {run : Run} {after : State} → run ≡ begun slot tick → after ≡ withPhase state (Running run) → r ≡ 0
+  pub start-accepted : {run : Run} {store : Store} {after : State} → run ≡ begun slot tick → store ≡ setPhase (state .store) (Running run)
+      → after ≡ withStore state store → r ≡ 0
       → reply 0 after ≡ starting state m slot tick
   unfolding starting
-  start-accepted e f z =
-      rw (f, e)
+  start-accepted e f g z =
+      rw (g, f, e)
       (sym
       (taken (startCases state m slot) (λ number. reply number state) (reply 0 (withPhase state (Running (begun slot tick))))
       (none-of (startCases state m slot) refl is z)))
@@ -261,10 +329,11 @@ module _ (state : State) (m : ℕ) {r : ℕ} (is : r ≡ firstOf (abandonCases s
   unfolding abandoning
   abandon-refused = some-number (abandonCases state m) (λ number. reply number state) (reply 0 (withPhase state Abandoned)) is
 
-  pub abandon-accepted : {after : State} → after ≡ withPhase state Abandoned → r ≡ 0 → reply 0 after ≡ abandoning state m
+  pub abandon-accepted : {store : Store} {after : State} → store ≡ setPhase (state .store) Abandoned → after ≡ withStore state store → r ≡ 0
+      → reply 0 after ≡ abandoning state m
   unfolding abandoning
-  abandon-accepted f z =
-      rw f
+  abandon-accepted e f z =
+      rw (f, e)
       (sym
       (taken (abandonCases state m) (λ number. reply number state) (reply 0 (withPhase state Abandoned))
       (none-of (abandonCases state m) refl is z)))
@@ -306,8 +375,46 @@ module _ (state : State) (tick : Tick) (memory out : List ℕ) {r : ℕ} (is : r
       (taken (storeCases state (length memory)) (λ n. polling (Refused n) state memory out)
       (pollPhase state tick memory out (state .store .phase)) (none-of (storeCases state (length memory)) refl is z))
 
+-- what a poll of a run leaves of the store, by its answer
+pub polled-store : (store : Store) (slot : ℕ) {given known : Answer} → given ≡ known → {after : Store}
+    → after ≡ setSummaries store (summariesAfter known slot (store .summaries))
+    → after ≡ setSummaries store (summariesAfter given slot (store .summaries))
+polled-store store slot e f = f ∙ ap (λ (a : Answer). setSummaries store (summariesAfter a slot (store .summaries))) (sym e)
+
+pub shown-store : (store : Store) {counts shown : List Summary} → counts ≡ shown → {after : Store} → after ≡ setSummaries store counts
+    → after ≡ setSummaries store shown
+shown-store store e f = rw (f, e)
+
+pub left-by : (store : Store) (slot : ℕ) (handed : Handed) {phased : Store} → phased ≡ setPhase store (handed .phase)
+    → {after : Store} → after ≡ setSummaries phased (summariesAfter (handed .answer) slot (phased .summaries))
+    → _≡_ {A = Left} (record { answer = handed .answer; store = after }) (leftBy store slot handed)
+left-by store slot handed e f = rw (f, e)
+
+pub poll-left : (state : State) (slot : ℕ) (handed : Handed) {left : Left} {m o : List ℕ} → left ≡ leftBy (state .store) slot handed
+    → polling (left .answer) (withStore state (left .store)) m o ≡ inState state slot (outcome (handed .answer) (handed .phase) m o)
+poll-left state slot handed {left} {m} {o} e = ap (λ (l : Left). polling (l .answer) (withStore state (l .store)) m o) e
+
 -- the whole poll, from that on the state's parts
-pub poll-whole : (state : State) (tick : Tick) (memory out : List ℕ) {given : Answer} {after : Phase} {next : State} {m o : List ℕ}
-    → next ≡ withPhase state after → inState state (outcome given after m o) ≡ polled state tick memory out
+pub poll-whole : (state : State) (tick : Tick) (memory out : List ℕ) {given : Answer} {after : Store} {next : State} {m o : List ℕ}
+    → next ≡ withStore state after → polling given (withStore state after) m o ≡ polled state tick memory out
     → polling given next m o ≡ polled state tick memory out
 poll-whole state tick memory out {given} {after} {next} {m} {o} e f = rw e f
+
+-- ---- the summary of a slot
+
+module _ (state : State) (slot : ℕ) {r : ℕ} (is : r ≡ firstOf (summaryCases state slot) (λ n. n) 0) where
+  pub summary-refused : {told : Summary} → told ≡ emptySummary → (r ≡ 0 → ⊥) → summarised r told state ≡ slotSummary state slot
+  unfolding slotSummary
+  summary-refused e d =
+      ap (λ (s : Summary). summarised r s state) e
+      ∙ some-number (summaryCases state slot) (λ number. summarised number emptySummary state)
+      (summarised 0 (getD (state .store .summaries) slot emptySummary) state) is d
+
+  pub summary-told : {told : Summary} → told ≡ getD (state .store .summaries) slot emptySummary → r ≡ 0
+      → summarised 0 told state ≡ slotSummary state slot
+  unfolding slotSummary
+  summary-told e z =
+      ap (λ (s : Summary). summarised 0 s state) e
+      ∙ sym
+      (taken (summaryCases state slot) (λ number. summarised number emptySummary state)
+      (summarised 0 (getD (state .store .summaries) slot emptySummary) state) (none-of (summaryCases state slot) refl is z))

@@ -3,15 +3,15 @@
 -- Assumes nothing.
 use mathlib.Core.Path.{_≡_, refl, sym, ap, _∙_}
 use mathlib.Core.Bool.{Bool, true, false, not, and-true, false≢true}
-use mathlib.Core.List.{List}
+use mathlib.Core.List.{List, [], _∷_}
 use Prim.Native.Nat.{ℕ, _≤_, _<_}
 use native.Mathlib.Omega.{arith}
 use borrow.Author.Tests.{leb-true, eqb-true, le-leb, lt-leb, eq-eqb, ne-eqb, not-false, not-true}
 use lib.Dec.{eqb}
 use lib.ListN.{length, getD}
 use lib.Seq.{length-take-le}
-use Rattle.lists.specs.Rules.{every}
-use Rattle.lists.proofs.Rules.{refused, passed, broken, holds, none, keep, all-kept, None, past}
+use Rattle.lists.specs.Rules.{every, firstOf}
+use Rattle.lists.proofs.Rules.{refused, passed, broken, holds, none, keep, all-kept, every-append, None, past}
 use Rattle.lists.proofs.Rules as cases
 use Rattle.settings.specs.Settings.{settingsGood}
 use Rattle.settings.specs.Plans.{PlanOf, PlannedFor}
@@ -21,11 +21,13 @@ use Rattle.panel.specs.declared.Shape.{Shape}
 use Rattle.picture.proofs.Slots.{slot-in}
 use Rattle.fill.specs.Conditions.{fillValid}
 use Rattle.fill.specs.declared.Fill.{Fill}
+use Rattle.summary.specs.Conditions.{summariesGood}
+use Rattle.summary.specs.declared.Summary.{Summary}
 use Rattle.run.specs.Conditions.{runValid}
 use Rattle.run.specs.declared.Run.{Run}
 use Rattle.run.specs.declared.Phase.{Phase}
 use Rattle.run.specs.declared.Phase.the-variants.{Running}
-use Rattle.board.specs.State.{fileOf, sizesOf, withPhase, withFill, phaseValid, isRunsSlot, fillRules, stateRules, stateValid, storeBytes, storeCases}
+use Rattle.board.specs.State.{fileOf, sizesOf, withPhase, withFill, withSummaries, phaseValid, isRunsSlot, fillRules, slotRules, stateRules, stateValid, storeBytes, stateCases, storeCases}
 use Rattle.board.specs.Facts.{StatePlanned, Found, SlotOf}
 use Rattle.board.specs.declared.State.{State}
 use Rattle.board.specs.declared.Store.{Store}
@@ -42,6 +44,7 @@ pub record ValidState (state : State) : Type 0 where
   pub fill-high : state .store .fill .slot ≤ state .store .slots
   pub fill-apart : isRunsSlot (state .store .phase) (state .store .fill .slot) ≡ false
   pub fill-good : fillValid (sizesOf state .bytes) (sizesOf state .rows) (sizesOf state .stride) (state .store .fill) ≡ true
+  pub summaries-good : summariesGood (sizesOf state .bytes) (sizesOf state .rows) (state .store .slots) (state .store .summaries) ≡ true
 
 pub valid-state : (state : State) → stateValid state ≡ true → ValidState state
 unfolding stateValid
@@ -56,6 +59,7 @@ valid-state state e =
       fill-high = leb-true _ _ (rule 5);
       fill-apart = not-true _ (rule 6);
       fill-good = rule 7;
+      summaries-good = rule 8;
     }
 
 pub state-valid : (state : State) → ValidState state → stateValid state ≡ true
@@ -66,7 +70,9 @@ state-valid state v =
     (keep (v .good)
     (keep (le-leb _ _ (v .some))
     (keep (le-leb _ _ (v .few))
-    (keep (v .phase-good) (keep (le-leb _ _ (v .fill-high)) (keep (ap not (v .fill-apart)) (keep (v .fill-good) none))))))))
+    (keep (v .phase-good)
+    (keep (le-leb _ _ (v .fill-high))
+    (keep (ap not (v .fill-apart)) (keep (v .fill-good) (keep (v .summaries-good) none)))))))))
 
 -- another valid phase, whose run has not the slot being filled, keeps a state valid
 pub phase-kept : (state : State) (phase : Phase) → stateValid state ≡ true
@@ -84,6 +90,7 @@ phase-kept state phase e p apart =
       fill-high = v .fill-high;
       fill-apart = apart;
       fill-good = v .fill-good;
+      summaries-good = v .summaries-good;
     })
 
 -- and so does another valid fill, of a slot of the store that is not the run's
@@ -103,6 +110,26 @@ fill-kept state fill e high apart good =
       fill-high = high;
       fill-apart = apart;
       fill-good = good;
+      summaries-good = v .summaries-good;
+    })
+
+-- and so do other summaries that keep their conditions
+pub summaries-kept : (state : State) (summaries : List Summary) → stateValid state ≡ true
+    → summariesGood (sizesOf state .bytes) (sizesOf state .rows) (state .store .slots) summaries ≡ true
+    → stateValid (withSummaries state summaries) ≡ true
+summaries-kept state summaries e good =
+    let v = valid-state state e in
+    state-valid (withSummaries state summaries)
+    (record {
+      within = v .within;
+      good = v .good;
+      some = v .some;
+      few = v .few;
+      phase-good = v .phase-good;
+      fill-high = v .fill-high;
+      fill-apart = v .fill-apart;
+      fill-good = v .fill-good;
+      summaries-good = good;
     })
 
 -- a valid state with a run has a valid run
@@ -133,15 +160,15 @@ module _ (state : State) {r : Planned} (unplanned : r .ok ≡ false) where
   pub not-phase : phaseValid (fileOf state) (state .store .slots) (state .store .phase) ≡ false → StatePlanned state r
   not-phase e = breaks 4 e
 
-pub fill-decides : (state : State) → state .settings .len ≤ length (state .settings .file) → 1 ≤ state .store .slots
+pub slots-decide : (state : State) → state .settings .len ≤ length (state .settings .file) → 1 ≤ state .store .slots
     → state .store .slots ≤ 7 → {ok : Bool} {plan : Plan} → PlanOf (fileOf state) plan
     → phaseValid (fileOf state) (state .store .slots) (state .store .phase) ≡ true
-    → ok ≡ every (fillRules (plan .shape) (state .store)) → StatePlanned state (record { ok = ok; plan = plan })
+    → ok ≡ every (slotRules (plan .shape) (state .store)) → StatePlanned state (record { ok = ok; plan = plan })
 unfolding stateValid
-fill-decides state e g h of phase is =
+slots-decide state e g h of phase is =
     record {
       good = is
-          ∙ ap (λ (shape : Shape). every (fillRules shape (state .store))) (of .shape-is)
+          ∙ ap (λ (shape : Shape). every (slotRules shape (state .store))) (of .shape-is)
           ∙ sym (rw (le-leb _ _ e, of .good, le-leb _ _ g, le-leb _ _ h, phase));
       plan = λ _. of;
     }
@@ -158,6 +185,17 @@ module _ (shape : Shape) (store : Store) where
     pub fill-last : {t : Bool} → t ≡ isRunsSlot (store .phase) (store .fill .slot) → t ≡ false → {r : Bool}
         → r ≡ fillValid (shape .bytes) (shape .rows) (shape .stride) (store .fill) → r ≡ every (fillRules shape store)
     fill-last is e {r} f = rw (le-leb _ _ high, ← is, e, ← f) (sym (and-true r))
+
+-- how `slots_valid` finds them
+module _ (shape : Shape) (store : Store) {t : Bool} (is : t ≡ every (fillRules shape store)) where
+  abbrev counts-good : Bool
+  counts-good = summariesGood (shape .bytes) (shape .rows) (store .slots) (store .summaries)
+
+  pub fill-fails : not t ≡ true → false ≡ every (slotRules shape store)
+  fill-fails e = sym (every-append (fillRules shape store) (counts-good ∷ []) ∙ rw (refused is e))
+
+  pub summaries-last : not t ≡ false → {r : Bool} → r ≡ counts-good → r ≡ every (slotRules shape store)
+  summaries-last e f = f ∙ sym (every-append (fillRules shape store) (counts-good ∷ []) ∙ rw (passed is e, and-true))
 
 -- ---- 13 and 1
 
@@ -184,6 +222,14 @@ slot-of state memoryLength slot t le of =
     let v = valid-state state (t .valid) in
     let fits = slot-in (sizesOf state .bytes) (sizesOf state .rows) (state .store .slots) memoryLength (t .exact) slot (v .few) le in
     record { sized = of .sized; slot-in = rw (of .shape-is) fits }
+
+-- how `check_state` finds 13
+module _ (state : State) {planned : Planned} (is : StatePlanned state planned) where
+  pub state-13 : not (planned .ok) ≡ true → 13 ≡ firstOf (stateCases state) (λ n. n) 0
+  state-13 e = rw (refused (is .good) e)
+
+  pub state-0 : not (planned .ok) ≡ false → 0 ≡ firstOf (stateCases state) (λ n. n) 0
+  state-0 e = rw (passed (is .good) e)
 
 -- how `check_store` finds them
 module _ (state : State) (memoryLength : ℕ) {planned : Planned} (is : StatePlanned state planned) where

@@ -18,8 +18,8 @@ use Rattle.run.specs.Conditions.{runValid}
 use Rattle.run.specs.declared.Run.{Run}
 use Rattle.run.proofs.Valid.{valid}
 use Rattle.poll.specs.Facts.{Room}
-use Rattle.board.specs.State.{fileOf, sizesOf, isRunsSlot, storeCases}
-use Rattle.board.specs.Calls.{takesPictures, isRunning, isAbandoned, isFilled, isFilling, uploadOwn, uploadCases, beginOwn, fillOwn, fillCases, startOwn, abandonOwn, writeOwn, writeCases}
+use Rattle.board.specs.State.{fileOf, sizesOf, isRunsSlot, stateValid, stateCases, storeCases}
+use Rattle.board.specs.Calls.{takesPictures, isRunning, isAbandoned, isFilled, isFilling, uploadOwn, uploadCases, beginOwn, fillOwn, fillCases, startOwn, abandonOwn, writeOwn, writeCases, summaryOwn, summaryCases}
 use Rattle.board.specs.Facts.{numberAfter, Found, SlotOf}
 use Rattle.board.specs.declared.State.{State}
 use Rattle.board.specs.declared.Store.{Store}
@@ -98,6 +98,25 @@ writable store shape slot outLength (past e (past f rest)) = record { high = ltb
 pub write-free : (store : Store) (shape : Shape) (slot outLength : ℕ) → Writable store shape slot outLength → None (writeOwn store shape slot outLength)
 write-free store shape slot outLength may = past (le-ltb _ _ (may .high)) (past (le-ltb _ _ (may .room)) none)
 
+-- a slot whose summary is told, of a valid state
+pub record Told (state : State) (slot : ℕ) : Type 0 where
+  pub valid : stateValid state ≡ true
+  pub high : slot ≤ state .store .slots
+
+pub told : (state : State) (slot : ℕ) → None (summaryCases state slot) → Told state slot
+told state slot (past e (past f rest)) = record { valid = not-false (stateValid state) e; high = ltb-false _ _ f }
+
+pub told-free : (state : State) (slot : ℕ) → Told state slot → None (summaryCases state slot)
+told-free state slot t = past (ap not (t .valid)) (past (le-ltb (state .store .slots) slot (t .high)) none)
+
+-- its place is one of eight
+pub told-place : (state : State) (slot : ℕ) {r : ℕ} → r ≡ firstOf (summaryCases state slot) (λ n. n) 0 → r ≡ 0 → slot ≤ 7
+told-place state slot is z =
+    let t = told state slot (none-of (summaryCases state slot) refl is z) in
+    let few = valid-state state (t .valid) .few in
+    let high = t .high in
+    omega arith
+
 -- ---- the numbers that the functions found
 
 module _ (state : State) (cases own : List Case) {checked : Checked} (found : Found state cases checked) where
@@ -148,6 +167,10 @@ module _ (state : State) (memoryLength slot : ℕ) {checked : Checked} where
         slot-of state memoryLength slot (tested state memoryLength (free .0)) (may .high) (found .plan z),
         rw (found .plan z .shape-is) (may .room),
       )
+
+-- and still does in as many bytes
+pub slot-still : {shape : Shape} {l l′ slot : ℕ} → SlotOf shape l slot → l′ ≡ l → SlotOf shape l′ slot
+slot-still {shape} {l} {l′} {slot} lies e = rw e lies
 
 -- the slot being filled
 pub fill-slot : (state : State) (memoryLength : ℕ) {checked : Checked} → Found state (fillCases state memoryLength) checked

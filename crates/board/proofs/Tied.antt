@@ -13,7 +13,7 @@ use Rattle.settings.specs.Settings.{rowBytesIn, rowsIn}
 use Rattle.run.specs.Due.{runFrames}
 use Rattle.run.specs.declared.Tick.{Tick}
 use Rattle.board.specs.History as H
-use Rattle.board.specs.History.{Call, Event, Called, callOn, ofReply, ofPoll, eventsOf, memoryAfter}
+use Rattle.board.specs.History.{Call, Event, Called, callOn, ofReply, ofPoll, ofSummary, eventsOf, memoryAfter}
 use Rattle.board.specs.Calls.{polling}
 use Rattle.board.specs.Chains.{Parts, Chain, finished, more}
 use Rattle.board.specs.Balance.{Balanced}
@@ -50,6 +50,9 @@ use Rattle.board.proofs.State.start.Reads as start-reads
 use Rattle.board.proofs.State.abandon as abandon-fn
 use Rattle.board.proofs.State.abandon.Kinds as abandon-kinds
 use Rattle.board.proofs.State.abandon.Reads as abandon-reads
+use Rattle.board.proofs.State.summary as summary-fn
+use Rattle.board.proofs.State.summary.Kinds as summary-kinds
+use Rattle.board.proofs.State.summary.Reads as summary-reads
 use Rattle.board.proofs.State.poll as poll-fn
 use Rattle.board.proofs.State.poll.Kinds as poll-kinds
 use Rattle.board.proofs.State.poll.Reads as poll-reads
@@ -111,9 +114,15 @@ WriteBitmap =
     made.Call 2 (World.ArgsD write-fn.signature) (World.ResD write-fn.signature)
     (Clauses.AtExit (FnKinds.endedOf 2 write-kinds.ps write-kinds.r)) write-reads.Learnt
 
+abbrev pub SummaryCall : Type 0
+SummaryCall =
+    made.Call 0 (World.ArgsD summary-fn.signature) (World.ResD summary-fn.signature)
+    (Clauses.AtExit (FnKinds.endedOf 0 summary-kinds.ps summary-kinds.r)) summary-reads.Learnt
+
 -- ---- the parts of each call: the places of its arguments are named here and nowhere else
 
--- the slot and the tick reading of a start, the slot of a fill's begin, and the slot and the file of a bitmap upload and of the writer
+-- the slot and the tick reading of a start, the slot of a fill's begin, the slot and the file of a bitmap upload and of the writer, and
+-- the state and the slot of a call for a summary
 abbrev pub startedSlot : Start → ℕ
 startedSlot c = c .args .1 .1 .0
 
@@ -131,6 +140,12 @@ uploadedFile c = now (c .args .1 .1 .1 .0)
 
 abbrev pub writtenSlot : WriteBitmap → ℕ
 writtenSlot c = c .args .1 .1 .0
+
+abbrev pub summaryState : SummaryCall → State
+summaryState c = c .args .0
+
+abbrev pub summarySlot : SummaryCall → ℕ
+summarySlot c = c .args .1 .0
 
 -- a call that answers a number: its memory at entry, its reply, and the memory and the output at exit
 abbrev replied : State → (before : List ℕ) → Call → Reply → (after out : List ℕ) → Parts
@@ -183,6 +198,12 @@ pollParts c =
       left = ofPoll call before (polling (c .result .answer) (c .result .state) (now (c .exit .1 .1 .0)) (now (c .exit .1 .1 .1 .0)));
     }
 
+-- it is lent no memory, which stays as it was
+abbrev pub summaryParts : SummaryCall → (memory : List ℕ) → Parts
+summaryParts c memory =
+    let call = H.summary (summarySlot c) in
+    record { state = summaryState c; memory = memory; call = call; left = ofSummary call memory (c .result) }
+
 -- what an opening was given and left
 abbrev pub openedFile : Open → List ℕ
 openedFile o = now (o .args .0)
@@ -210,6 +231,7 @@ pub record AskNothing : Type 0 where
   pub abandoning : made.AsksNothing 1 (World.ArgsD abandon-fn.signature) abandon-reads.Asked
   pub polling : made.AsksNothing 2 (World.ArgsD poll-fn.signature) poll-reads.Asked
   pub writing : made.AsksNothing 2 (World.ArgsD write-fn.signature) write-reads.Asked
+  pub summarising : made.AsksNothing 0 (World.ArgsD summary-fn.signature) summary-reads.Asked
 
 pub asks-nothing : AskNothing
 asks-nothing =
@@ -225,6 +247,7 @@ asks-nothing =
       abandoning = λ l args. tt;
       polling = λ l args. tt;
       writing = λ l args. tt;
+      summarising = λ l args. tt;
     }
 
 -- ---- one call that keeps its contract
@@ -240,6 +263,7 @@ pub data Step : Parts → Type 0 where
   abandon : (c : Abandon) → Step (abandonParts c)
   poll : (c : Poll) → Step (pollParts c)
   writeBitmap : (c : WriteBitmap) → Step (writeParts c)
+  summary : (c : SummaryCall) (memory : List ℕ) → Step (summaryParts c memory)
 
 -- it left what the definition of its call says
 pub kept : {p : Parts} → Step p → p .left ≡ callOn (p .state) (p .memory) (p .call)
@@ -253,6 +277,7 @@ kept {p} (start c) = ap (λ (r : Reply). ofReply (p .call) (p .memory) r (p .mem
 kept {p} (abandon c) = ap (λ (r : Reply). ofReply (p .call) (p .memory) r (p .memory) []) (c .promised)
 kept {p} (poll c) = ap (ofPoll (p .call) (p .memory)) (c .promised)
 kept {p} (writeBitmap c) = ap (λ (z : Reply × List ℕ). ofReply (p .call) (p .memory) (z .0) (p .memory) (z .1)) (c .promised)
+kept {p} (summary c memory) = ap (ofSummary (p .call) memory) (c .promised)
 
 -- ---- a chain of such calls is a list of calls
 

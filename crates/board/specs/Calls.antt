@@ -1,12 +1,12 @@
--- Document 01, "Store and bitmaps", "The run and its time" and "Numbers given back", and request 2026-02, "Bitmaps over a slow cable":
--- what each call does, on any input. A refusal is its number and the state as given, and every lent byte stays; but 4 of a fill ends the
--- fill. The cases of a call are its refusals in order: the store's 13 and 1, then its own.
+-- Document 01, "Store and bitmaps", "The run and its time" and "Numbers given back", and the requests 2026-02, "Bitmaps over a slow
+-- cable", and 2026-05, "A summary beside each slot": what each call does, on any input. A refusal is its number and the state as given, and
+-- every lent byte stays; but 4 of a fill ends the fill. The cases of a call are its refusals in order: the store's 13 and 1, then its own.
 -- Assumes nothing.
 use Prim.Native.Nat.{ℕ}
-use mathlib.Core.Bool.{Bool, true, false, not, _&&_}
+use mathlib.Core.Bool.{Bool, true, false, cond, not, _&&_, _||_}
 use mathlib.Core.List.{List, [], _∷_, _++_}
 use lib.Dec.{eqb, leb, ltb}
-use lib.ListN.{length, replicate}
+use lib.ListN.{length, getD, set, replicate}
 use Rattle.lists.specs.Lists.{overlay}
 use Rattle.lists.specs.Rules.{Case, case, firstOf}
 use Rattle.panel.specs.declared.Shape.{Shape}
@@ -15,10 +15,12 @@ use Rattle.picture.specs.Slots.{slotBytes, withBytes, slotPicture, withPicture}
 use Rattle.picture.specs.Regions.{regionCases, withRegion}
 use Rattle.bitmap.specs.Header.{fileLength}
 use Rattle.bitmap.specs.Bitmap.{bitmapGood, readPicture, writtenFile}
-use Rattle.fill.specs.Fills.{begunFill}
+use Rattle.fill.specs.Fills.{begunFill, rowsCome}
 use Rattle.fill.specs.Feeding.{feeding, finishing, cancelling}
 use Rattle.fill.specs.declared.Fill.{Fill}
 use Rattle.fill.specs.declared.Fed.{Fed}
+use Rattle.summary.specs.Summaries.{summaryOf, emptySummary}
+use Rattle.summary.specs.declared.Summary.{Summary}
 use Rattle.run.specs.Runs.{begun}
 use Rattle.run.specs.declared.Tick.{Tick}
 use Rattle.poll.specs.Answers.{answerNumber, answerMs, putOut}
@@ -28,10 +30,11 @@ use Rattle.poll.specs.declared.Answer.{Answer}
 use Rattle.poll.specs.declared.Answer.the-variants as answer
 use Rattle.run.specs.declared.Phase.{Phase}
 use Rattle.run.specs.declared.Phase.the-variants.{Idle, Abandoned, Running}
-use Rattle.board.specs.State.{fileOf, sizesOf, withPhase, withFill, isRunsSlot, storeBytes, storeCases, emptyState, openedState}
+use Rattle.board.specs.State.{fileOf, sizesOf, withPhase, withFill, withSummaries, isRunsSlot, storeBytes, stateCases, storeCases, emptyState, openedState}
 use Rattle.board.specs.declared.State.{State}
 use Rattle.board.specs.declared.Store.{Store}
 use Rattle.board.specs.declared.Reply.{Reply}
+use Rattle.board.specs.declared.Summarised.{Summarised}
 
 abbrev pub reply : (number : ℕ) → State → Reply
 reply number state = record { number = number; state = state }
@@ -71,7 +74,16 @@ opening file n memory =
     (λ number. (reply number emptyState, memory))
     (reply 0 (openedState file n), replicate (length memory) 0xFF)
 
--- ---- uploads: 13, 1, 3, 7, 15, then 5, 6, or 4
+-- ---- a fresh count of a slot, left at its place
+
+abbrev pub countedIn : (shape : Shape) (memory : List ℕ) (slot : ℕ) → List Summary → List Summary
+countedIn shape memory slot summaries =
+    set summaries slot (summaryOf (shape .bytes) (shape .rows) (slotPicture (shape .bytes) (shape .rows) memory slot))
+
+abbrev pub counted : (shape : Shape) → State → (memory : List ℕ) (slot : ℕ) → State
+counted shape state memory slot = withSummaries state (countedIn shape memory slot (state .store .summaries))
+
+-- ---- uploads: 13, 1, 3, 7, 15, then 5, 6, or 4; else a fresh count of the slot
 
 abbrev pub uploadOwn : (store : Store) (slot : ℕ) → List Case
 uploadOwn store slot =
@@ -94,19 +106,23 @@ abbrev pub bitmapDrawn : (shape : Shape) (memory : List ℕ) (slot : ℕ) (file 
 bitmapDrawn shape memory slot file =
     withPicture (shape .bytes) (shape .rows) memory slot (readPicture (shape .bytes) (shape .rows) (shape .stride) file)
 
+-- a picture was drawn into a slot, and the memory is this afterwards
+abbrev pub drawnTo : State → (slot : ℕ) (after : List ℕ) → Reply × List ℕ
+drawnTo state slot after = (reply 0 (counted (sizesOf state) state after slot), after)
+
 unfoldable pub regionUpload : (state : State) (memory : List ℕ) (slot x y width height : ℕ) (payload : List ℕ) → Reply × List ℕ
 regionUpload state memory slot x y width height payload =
     firstOf
     (uploadCases state (length memory) slot
     ++ regionCases (sizesOf state .bytes) (sizesOf state .rows) x y width height payload)
     (λ number. (reply number state, memory))
-    (reply 0 state, regionDrawn (sizesOf state) memory slot x y width height payload)
+    (drawnTo state slot (regionDrawn (sizesOf state) memory slot x y width height payload))
 
 unfoldable pub bitmapUpload : (state : State) (memory : List ℕ) (slot : ℕ) (file : List ℕ) → Reply × List ℕ
 bitmapUpload state memory slot file =
     firstOf (uploadCases state (length memory) slot ++ bitmapCases (sizesOf state) file)
     (λ number. (reply number state, memory))
-    (reply 0 state, bitmapDrawn (sizesOf state) memory slot file)
+    (drawnTo state slot (bitmapDrawn (sizesOf state) memory slot file))
 
 -- ---- fills: begin 13, 1, 3, 7, 15, 16; feed, finish and cancel 13, 1, 17, and the first two then 4
 
@@ -133,27 +149,40 @@ onSlot shape memory slot act =
     let r = act (slotBytes (shape .bytes) (shape .rows) memory slot) in
     (r .0, withBytes (shape .bytes) (shape .rows) memory slot (r .1))
 
--- the reply to it: its number, and the state with the fill that it leaves
-abbrev pub fedReply : State → Fed → Reply
-fedReply state fed = reply (fed .number) (withFill state (fed .fill))
+-- the reply to it: its number, and the state with the fill that it leaves; and where the slot was written, with a fresh count of it
+abbrev pub fedReply : (shape : Shape) → State → (wrote : Bool) (memory : List ℕ) → Fed → Reply
+fedReply shape state wrote memory fed =
+    reply (fed .number)
+    (withSummaries (withFill state (fed .fill))
+    (cond wrote (countedIn shape memory (state .store .fill .slot) (state .store .summaries)) (state .store .summaries)))
 
--- something done to the slot being filled, where there is one
-abbrev pub onFill : (state : State) (memory : List ℕ) (act : List ℕ → Fed × List ℕ) → Reply × List ℕ
-onFill state memory act =
+-- something done to the slot being filled, where there is one; `writes` says by what it gives back whether the slot was written
+abbrev pub onFill : (state : State) (memory : List ℕ) (act : List ℕ → Fed × List ℕ) (writes : Fed → Bool) → Reply × List ℕ
+onFill state memory act writes =
     firstOf (fillCases state (length memory))
     (λ number. (reply number state, memory))
-    (let r = onSlot (sizesOf state) memory (state .store .fill .slot) act in (fedReply state (r .0), r .1))
+    (let r = onSlot (sizesOf state) memory (state .store .fill .slot) act in
+    (fedReply (sizesOf state) state (writes (r .0)) (r .1) (r .0), r .1))
+
+-- a chunk wrote the slot where it earned 4, which makes the slot white, or where it made rows whole
+abbrev pub chunkWrites : (s : ℕ) (before : Fill) → Fed → Bool
+chunkWrites s before fed = not (eqb (fed .number) 0) || not (eqb (rowsCome s (fed .fill .came)) (rowsCome s (before .came)))
+
+-- finish wrote it where it earned 4; a cancel always does
+abbrev pub finishWrites : Fed → Bool
+finishWrites fed = not (eqb (fed .number) 0)
 
 unfoldable pub fillFeed : (state : State) (memory chunk : List ℕ) → Reply × List ℕ
 fillFeed state memory chunk =
     onFill state memory (feeding (sizesOf state .bytes) (sizesOf state .rows) (sizesOf state .stride) (state .store .fill) chunk)
+    (chunkWrites (sizesOf state .stride) (state .store .fill))
 
 unfoldable pub fillFinish : (state : State) (memory : List ℕ) → Reply × List ℕ
 fillFinish state memory =
-    onFill state memory (finishing (sizesOf state .bytes) (sizesOf state .rows) (sizesOf state .stride) (state .store .fill))
+    onFill state memory (finishing (sizesOf state .bytes) (sizesOf state .rows) (sizesOf state .stride) (state .store .fill)) finishWrites
 
 unfoldable pub fillCancel : (state : State) (memory : List ℕ) → Reply × List ℕ
-fillCancel state memory = onFill state memory (λ raw. cancelling (sizesOf state .bytes) (sizesOf state .rows))
+fillCancel state memory = onFill state memory (λ raw. cancelling (sizesOf state .bytes) (sizesOf state .rows)) (λ fed. true)
 
 -- ---- start: 13, 1, 8, 12, 3, 15
 
@@ -213,13 +242,22 @@ polling answer state memory out =
       out = out;
     }
 
-abbrev pub inState : State → Outcome → Polling
-inState state (outcome answer phase memory out) = polling answer (withPhase state phase) memory out
+-- done copies the summary of the slot that the run shows to that of slot 0
+abbrev pub summariesAfter : Answer → (slot : ℕ) → List Summary → List Summary
+summariesAfter (answer.Refused number) slot summaries = summaries
+summariesAfter (answer.Write n) slot summaries = summaries
+summariesAfter (answer.Line n) slot summaries = summaries
+summariesAfter (answer.Wait ms) slot summaries = summaries
+summariesAfter answer.Done slot summaries = set summaries 0 (getD summaries slot emptySummary)
+
+abbrev pub inState : State → (slot : ℕ) → Outcome → Polling
+inState state slot (outcome answer phase memory out) =
+    polling answer (withSummaries (withPhase state phase) (summariesAfter answer slot (state .store .summaries))) memory out
 
 abbrev pub pollPhase : (state : State) (tick : Tick) (memory out : List ℕ) → Phase → Polling
 pollPhase state tick memory out Idle = polling (answer.Refused 9) state memory out
 pollPhase state tick memory out Abandoned = polling (answer.Refused 9) state memory out
-pollPhase state tick memory out (Running run) = inState state (pollRun (fileOf state) run tick memory out)
+pollPhase state tick memory out (Running run) = inState state (run .slot) (pollRun (fileOf state) run tick memory out)
 
 unfoldable pub polled : (state : State) (tick : Tick) (memory out : List ℕ) → Polling
 polled state tick memory out =
@@ -246,3 +284,21 @@ bitmapWrite state memory slot out =
     firstOf (writeCases state (length memory) slot (length out))
     (λ number. (reply number state, out))
     (reply 0 state, bitmapWritten (sizesOf state) memory slot out)
+
+-- ---- the summary of a slot, slot 0 too: 13, 3
+
+abbrev pub summaryOwn : (store : Store) (slot : ℕ) → List Case
+summaryOwn store slot = case (ltb (store .slots) slot) 3 ∷ []
+
+abbrev pub summaryCases : (state : State) (slot : ℕ) → List Case
+summaryCases state slot = stateCases state ++ summaryOwn (state .store) slot
+
+abbrev pub summarised : (number : ℕ) → Summary → State → Summarised
+summarised number summary state = record { number = number; summary = summary; state = state }
+
+-- a refused call gives the empty summary
+unfoldable pub slotSummary : (state : State) (slot : ℕ) → Summarised
+slotSummary state slot =
+    firstOf (summaryCases state slot)
+    (λ number. summarised number emptySummary state)
+    (summarised 0 (getD (state .store .summaries) slot emptySummary) state)

@@ -12,11 +12,14 @@ use Rattle.settings.specs.Plans.{PlanOf}
 use Rattle.settings.specs.declared.Planned.{Planned}
 use Rattle.picture.specs.Facts.{SlotIn}
 use Rattle.picture.specs.Regions.{regionCases}
-use Rattle.board.specs.State.{fileOf, stateValid, storeCases}
-use Rattle.board.specs.Calls.{uploadCases, regionDrawn, bitmapCases, bitmapDrawn}
+use Rattle.poll.specs.declared.Handed.{Handed}
+use Rattle.board.specs.State.{fileOf, setPhase, setSummaries, stateValid, storeCases}
+use Rattle.board.specs.Calls.{reply, counted, uploadCases, regionDrawn, bitmapCases, bitmapDrawn, summariesAfter}
 use Rattle.board.specs.declared.State.{State}
 use Rattle.board.specs.declared.Store.{Store}
+use Rattle.board.specs.declared.Reply.{Reply}
 use Rattle.board.specs.declared.checks.Checked.{Checked}
+use Rattle.board.specs.declared.runs.Left.{Left}
 
 abbrev pub stateOf : (file : List ℕ) (len : ℕ) → Store → State
 stateOf file len store = record { settings = record { file = file; len = len }; store = store }
@@ -50,3 +53,14 @@ regionPlaced shape memory slot x y width height payload =
     firstOf (regionCases (shape .bytes) (shape .rows) x y width height payload)
     (λ number. (number, memory))
     (0, regionDrawn shape memory slot x y width height payload)
+
+-- the reply to a picture that was drawn into a slot, or to one that was refused with a number
+abbrev pub drawnReply : (shape : Shape) → State → (memory : List ℕ) (slot number : ℕ) → Reply
+drawnReply shape state memory slot number = reply number (cond (eqb number 0) (counted shape state memory slot) state)
+
+-- what a poll of a run leaves of the store
+abbrev pub leftBy : Store → (slot : ℕ) → Handed → Left
+leftBy store slot handed = record {
+  answer = handed .answer;
+  store = setSummaries (setPhase store (handed .phase)) (summariesAfter (handed .answer) slot (store .summaries));
+}

@@ -6,13 +6,15 @@ use mathlib.Core.List.{List, [], _∷_}
 use lib.Dec.{eqb}
 use lib.ListN.{length}
 use Rattle.picture.specs.Slots.{slotPicture}
+use Rattle.summary.specs.declared.Summary.{Summary}
 use Rattle.run.specs.declared.Tick.{Tick}
 use Rattle.poll.specs.Answers.{answerNumber}
 use Rattle.poll.specs.declared.Answer.{Answer}
 use Rattle.poll.specs.declared.Answer.the-variants.{Refused, Write, Line, Wait, Done}
-use Rattle.board.specs.Calls.{regionUpload, bitmapUpload, fillBegin, fillFeed, fillFinish, fillCancel, starting, abandoning, Polling, polled, bitmapWrite}
+use Rattle.board.specs.Calls.{regionUpload, bitmapUpload, fillBegin, fillFeed, fillFinish, fillCancel, starting, abandoning, Polling, polled, bitmapWrite, slotSummary}
 use Rattle.board.specs.declared.State.{State}
 use Rattle.board.specs.declared.Reply.{Reply}
+use Rattle.board.specs.declared.Summarised.{Summarised}
 
 -- a call on the store, with what it brings. Every public call but opening that takes the state has a place here
 pub data Call : Type 0 where
@@ -26,6 +28,7 @@ pub data Call : Type 0 where
   poll : (tick : Tick) (out : List ℕ) → Call
   abandon : Call
   writeBitmap : (slot : ℕ) (out : List ℕ) → Call
+  summary : (slot : ℕ) → Call
 
 -- what a call is to a run: it starts one, polls it, abandons it, or has no part in it
 pub data Part : Type 0 where
@@ -45,16 +48,19 @@ partOf (start slot tick) = starts slot tick
 partOf (poll tick out) = polls tick
 partOf abandon = abandons
 partOf (writeBitmap slot out) = noPart
+partOf (summary slot) = noPart
 
--- what a call gave back: a number, or what a poll answered
+-- what a call gave back: a number, what a poll answered, or a number with a slot's summary
 pub data Given : Type 0 where
   number : ℕ → Given
   answered : Answer → Given
+  summed : ℕ → Summary → Given
 
 -- the number of what a call gave back, and whether it accepts the call
 abbrev pub numberGiven : Given → ℕ
 numberGiven (number n) = n
 numberGiven (answered answer) = answerNumber answer
+numberGiven (summed n held) = n
 
 abbrev pub isAccepted : Given → Bool
 isAccepted given = eqb (numberGiven given) 0
@@ -69,8 +75,9 @@ isDoneAnswer Done = true
 abbrev pub isDone : Given → Bool
 isDone (number n) = false
 isDone (answered answer) = isDoneAnswer answer
+isDone (summed n held) = false
 
--- what is seen of a call: the call, the picture memory that it was lent, what it gave back, and the bytes that a poll put out
+-- what is seen of a call: the call, the picture memory as it was, what it gave back, and the bytes that a poll put out
 pub data Event : Type 0 where
   event : (call : Call) (memory : List ℕ) (given : Given) (put : List ℕ) → Event
 
@@ -86,6 +93,7 @@ outOf (start slot tick) = []
 outOf (poll tick out) = out
 outOf abandon = []
 outOf (writeBitmap slot out) = out
+outOf (summary slot) = []
 
 -- a call's event, and the state, the memory and the output that it left
 pub record Called : Type 0 where
@@ -101,6 +109,10 @@ ofReply call before r after out =
 abbrev pub ofPoll : (call : Call) (before : List ℕ) → Polling → Called
 ofPoll call before p =
     record { seen = event call before (answered (p .answer)) (p .put); state = p .state; memory = p .memory; out = p .out }
+
+abbrev pub ofSummary : (call : Call) (memory : List ℕ) → Summarised → Called
+ofSummary call memory r =
+    record { seen = event call memory (summed (r .number) (r .summary)) []; state = r .state; memory = memory; out = [] }
 
 -- one call on a state and a memory, by the definition that its contract cites
 abbrev pub callOn : (state : State) (memory : List ℕ) → Call → Called
@@ -120,6 +132,7 @@ callOn state memory (poll tick out) = ofPoll (poll tick out) memory (polled stat
 callOn state memory abandon = ofReply abandon memory (abandoning state (length memory)) memory []
 callOn state memory (writeBitmap slot out) =
     ofReply (writeBitmap slot out) memory (bitmapWrite state memory slot out .0) memory (bitmapWrite state memory slot out .1)
+callOn state memory (summary slot) = ofSummary (summary slot) memory (slotSummary state slot)
 
 -- a list of calls, each given the state and the memory that the one before it left: what is seen of them, and the memory at the end
 abbrev pub eventsOf : (state : State) (memory : List ℕ) → List Call → List Event

@@ -3,11 +3,13 @@ ghost use mathlib.Core.Path.{_≡_};
 ghost use Prim.Native.Nat.{_≤_};
 ghost use Rattle.panel.specs.Facts.{Sized};
 ghost use Rattle.settings.specs.Plans.{PlanOf};
-ghost use Rattle.lists.specs.Rules.{every};
+ghost use Rattle.lists.specs.Rules.{every, firstOf};
 ghost use Rattle.board.specs.State.{
   phaseValid,
   isRunsSlot,
   fillRules,
+  slotRules,
+  stateCases,
   storeBytes,
   storeCases,
 };
@@ -64,6 +66,18 @@ fn fill_valid(shape: Shape, store: Store) -> bool
     fill::valid(shape.bytes, shape.rows, shape.stride, fill)
 }
 
+// Whether what is kept of the slots does: the fill, and the summaries of slots 0 to n.
+fn slots_valid(shape: Shape, store: Store) -> bool
+    requires { ⌜ (Sized shape) × (store .slots ≤ 7) ⌝ }
+    ensures { λ r. ⌜ r ≡ every (slotRules shape store) ⌝ }
+{
+    if !fill_valid(shape, store) {
+        return false;
+    }
+    let summaries = store.summaries;
+    summary::summaries_good(shape.bytes, shape.rows, store.slots as usize, summaries)
+}
+
 // Whether a state keeps its conditions, and the plan of its file where it does. The file is the first `len` bytes.
 fn plan_state(file: &[u8], len: usize, store: Store) -> Planned
     ensures { λ r. ⌜ StatePlanned (stateOf (now (file .entry)) len store) r ⌝ }
@@ -87,7 +101,7 @@ fn plan_state(file: &[u8], len: usize, store: Store) -> Planned
         return settings::no_plan();
     }
     let shape = plan.shape;
-    let ok = fill_valid(shape, store);
+    let ok = slots_valid(shape, store);
     Planned { ok, plan }
 }
 
@@ -97,6 +111,17 @@ pub fn store_bytes(shape: Shape, n: u32) -> usize
     ensures { λ r. ⌜ r ≡ storeBytes shape n ⌝ }
 {
     (n as usize + 1) * (shape.rows * shape.bytes)
+}
+
+// 13.
+pub fn check_state(file: &[u8], len: usize, store: Store) -> u8
+    ensures { λ r. ⌜ r ≡ firstOf (stateCases (stateOf (now (file .entry)) len store)) (λ n. n) 0 ⌝ }
+{
+    let planned = plan_state(file, len, store);
+    if !planned.ok {
+        return 13;
+    }
+    0
 }
 
 // 13 or 1.

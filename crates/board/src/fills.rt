@@ -2,7 +2,9 @@
 ghost use mathlib.Core.Path.{_≡_};
 ghost use lib.ListN.{length};
 ghost use Rattle.fill.specs.Feeding.{feeding, finishing, cancelling};
-ghost use Rattle.board.specs.Calls.{onSlot};
+ghost use Rattle.panel.specs.Facts.{Sized};
+ghost use Rattle.fill.specs.Fills.{rowsCome};
+ghost use Rattle.board.specs.Calls.{onSlot, chunkWrites};
 ghost use Rattle.board.specs.Facts.{SlotOf};
 use fill::Fed;
 use fill::Fill;
@@ -48,4 +50,26 @@ pub fn cancel_slot(shape: Shape, memory: &mut [u8], fill: Fill) -> Fed
     let start = fill.slot as usize * size;
     let end = start + size;
     fill::cancel(b, h, &mut memory[start..end])
+}
+
+// How many rows these bytes of a file make whole.
+fn rows_come(shape: Shape, came: usize) -> usize
+    requires { ⌜ Sized shape ⌝ }
+    ensures { λ r. ⌜ r ≡ rowsCome (shape .stride) came ⌝ }
+{
+    if came < 62 {
+        return 0;
+    }
+    (came - 62) / shape.stride
+}
+
+// Whether a chunk wrote the slot: it was refused, or it made rows whole.
+pub fn chunk_wrote(shape: Shape, before: Fill, fed: Fed) -> bool
+    requires { ⌜ Sized shape ⌝ }
+    ensures { λ r. ⌜ r ≡ chunkWrites (shape .stride) before fed ⌝ }
+{
+    if fed.number != 0 {
+        return true;
+    }
+    rows_come(shape, fed.fill.came) != rows_come(shape, before.came)
 }

@@ -5,8 +5,10 @@ ghost use Prim.Native.Nat.{_≤_};
 ghost use lib.ListN.{length};
 ghost use Rattle.settings.specs.Settings.{longestFile};
 ghost use Rattle.board.specs.State.{
-  withPhase,
-  withFill,
+  setPhase,
+  setFill,
+  setSummaries,
+  withStore,
   storeCases,
   emptyState,
   openedState,
@@ -28,29 +30,35 @@ ghost use Rattle.board.specs.Calls.{
   polled,
   writeCases,
   bitmapWrite,
+  slotSummary,
 };
-ghost use Rattle.board.specs.Facts.{Found};
+ghost use Rattle.board.specs.Facts.{Found, SlotOf, drawnReply};
 
 mod checks;
 mod fills;
 mod refusals;
 mod runs;
 mod slots;
+mod summaries;
 mod uploads;
 
 use checks::Checked;
 use fill::Fed;
 use fill::Fill;
+use panel::Shape;
 use poll::Answer;
 use run::Phase;
 use run::Tick;
 use settings::Settings;
+use summary::Summary;
 
-// What changes from call to call: the number n of the last slot, where the store stands, and the bitmap file that comes in chunks.
+// What changes from call to call: the number n of the last slot, where the store stands, the bitmap file that comes in chunks, and the
+// summaries of slots 0 to n, in eight places.
 pub struct Store {
     pub slots: u32,
     pub phase: Phase,
     pub fill: Fill,
+    pub summaries: [Summary; 8],
 }
 
 // The state of a store: its settings file, and what changes. docs/STATE.md has the conditions that it keeps.
@@ -71,18 +79,27 @@ pub struct Polled {
     pub state: State,
 }
 
+// What the call for a slot's summary gives back. The summary is empty where the call is refused.
+pub struct Summarised {
+    pub number: u8,
+    pub summary: Summary,
+    pub state: State,
+}
+
 // The one fixed empty state, on which every call is refused with 13.
 pub fn empty_state() -> State
     ensures { λ r. ⌜ r ≡ emptyState ⌝ }
 {
     let settings = settings::no_settings();
     let fill = fill::empty();
+    let summaries = summary::empty_summaries();
     State {
         settings,
         store: Store {
             slots: 0,
             phase: Phase::Idle,
             fill,
+            summaries,
         },
     }
 }
@@ -94,12 +111,14 @@ fn opened_state(file: &[u8], n: u32) -> State
 {
     let settings = settings::keep(file);
     let fill = fill::empty();
+    let summaries = summary::empty_summaries();
     State {
         settings,
         store: Store {
             slots: n,
             phase: Phase::Idle,
             fill,
+            summaries,
         },
     }
 }
@@ -124,27 +143,55 @@ pub fn open(file: &[u8], n: u32, memory: &mut [u8]) -> Reply
     }
 }
 
-impl State {
-    // The state with another phase.
-    fn with_phase(self, phase: Phase) -> State
-        ensures { λ r. ⌜ r ≡ withPhase self phase ⌝ }
+impl Store {
+    // The store with another phase.
+    fn with_phase(self, phase: Phase) -> Store
+        ensures { λ r. ⌜ r ≡ setPhase self phase ⌝ }
     {
-        let slots = self.store.slots;
-        let fill = self.store.fill;
-        let store = Store { slots, phase, fill };
-        let mut next = self;
-        next.store = store;
-        next
+        let fill = self.fill;
+        let summaries = self.summaries;
+        Store {
+            slots: self.slots,
+            phase,
+            fill,
+            summaries,
+        }
     }
 
-    // The state with another fill.
-    fn with_fill(self, fill: Fill) -> State
-        ensures { λ r. ⌜ r ≡ withFill self fill ⌝ }
+    // The store with another fill.
+    fn with_fill(self, fill: Fill) -> Store
+        ensures { λ r. ⌜ r ≡ setFill self fill ⌝ }
     {
-        let before = self.store;
-        let slots = before.slots;
-        let phase = before.phase;
-        let store = Store { slots, phase, fill };
+        let phase = self.phase;
+        let summaries = self.summaries;
+        Store {
+            slots: self.slots,
+            phase,
+            fill,
+            summaries,
+        }
+    }
+
+    // The store with other summaries.
+    fn with_summaries(self, summaries: [Summary; 8]) -> Store
+        ensures { λ r. ⌜ r ≡ setSummaries self summaries ⌝ }
+    {
+        let phase = self.phase;
+        let fill = self.fill;
+        Store {
+            slots: self.slots,
+            phase,
+            fill,
+            summaries,
+        }
+    }
+}
+
+impl State {
+    // The state with another store.
+    fn with_store(self, store: Store) -> State
+        ensures { λ r. ⌜ r ≡ withStore self store ⌝ }
+    {
         let mut next = self;
         next.store = store;
         next
@@ -196,6 +243,26 @@ impl State {
         Checked { number, plan }
     }
 
+    // The reply to a picture that was drawn into a slot, with a fresh count of it, or that was refused.
+    fn reply_drawn(self, number: u8, shape: Shape, memory: &[u8], slot: u32) -> Reply
+        requires { ⌜ SlotOf shape (length (now memory)) slot ⌝ }
+        ensures { λ r. ⌜ r ≡ drawnReply shape self (now (memory .entry)) slot number ⌝ }
+    {
+        if number != 0 {
+            return Reply {
+                number,
+                state: self,
+            };
+        }
+        let store = self.store;
+        let summaries = store.summaries;
+        let counted = summaries::count_slot(shape, memory, slot, summaries);
+        Reply {
+            number: 0,
+            state: self.with_store(store.with_summaries(counted)),
+        }
+    }
+
     // Paints the dots of a region of slot 1 to n: `width` by `height` dots from dot x of row y on. The payload has ceil(width / 8) bytes a
     // row, unused low bits 0. Numbers: 13, 1, 3, 7, 15, 5, 6.
     pub fn upload_region(
@@ -222,10 +289,7 @@ impl State {
         }
         let shape = plan.shape;
         let number = uploads::place_region(shape, memory, slot, x, y, width, height, payload);
-        Reply {
-            number,
-            state: self,
-        }
+        self.reply_drawn(number, shape, memory, slot)
     }
 
     // Makes slot 1 to n hold the picture of a whole bitmap file. Numbers: 13, 1, 3, 7, 15, 4.
@@ -243,10 +307,7 @@ impl State {
         }
         let shape = plan.shape;
         let number = uploads::place_bitmap(shape, memory, slot, bitmap);
-        Reply {
-            number,
-            state: self,
-        }
+        self.reply_drawn(number, shape, memory, slot)
     }
 
     // Begins to fill slot 1 to n with a bitmap file that comes in chunks. No byte changes. Numbers: 13, 1, 3, 7, 15, 16.
@@ -264,18 +325,29 @@ impl State {
         }
         Reply {
             number: 0,
-            state: self.with_fill(fill::begun(slot)),
+            state: self.with_store(store.with_fill(fill::begun(slot))),
         }
     }
 
-    // The reply to what was done to the slot being filled.
-    fn reply_fed(self, fed: Fed) -> Reply
-        ensures { λ r. ⌜ r ≡ fedReply self fed ⌝ }
+    // The reply to what was done to the slot being filled: where it was written, with a fresh count of it.
+    fn reply_fed(self, wrote: bool, shape: Shape, memory: &[u8], fed: Fed) -> Reply
+        requires { ⌜ SlotOf shape (length (now memory)) (self .store .fill .slot) ⌝ }
+        ensures { λ r. ⌜ r ≡ fedReply shape self wrote (now (memory .entry)) fed ⌝ }
     {
         let fill = fed.fill;
+        let before = self.store;
+        let store = before.with_fill(fill);
+        if !wrote {
+            return Reply {
+                number: fed.number,
+                state: self.with_store(store),
+            };
+        }
+        let summaries = store.summaries;
+        let fresh = summaries::count_slot(shape, memory, before.fill.slot, summaries);
         Reply {
             number: fed.number,
-            state: self.with_fill(fill),
+            state: self.with_store(store.with_summaries(fresh)),
         }
     }
 
@@ -295,7 +367,9 @@ impl State {
         }
         let shape = plan.shape;
         let fill = self.store.fill;
-        self.reply_fed(fills::feed_slot(shape, memory, fill, chunk))
+        let fed = fills::feed_slot(shape, memory, fill, chunk);
+        let wrote = fills::chunk_wrote(shape, fill, fed);
+        self.reply_fed(wrote, shape, memory, fed)
     }
 
     // Ends the file, all of whose bytes have come: the slot holds its picture. Numbers: 13, 1, 17, 4. With 4, where bytes are missing, the
@@ -314,7 +388,8 @@ impl State {
         }
         let shape = plan.shape;
         let fill = self.store.fill;
-        self.reply_fed(fills::finish_slot(shape, memory, fill))
+        let fed = fills::finish_slot(shape, memory, fill);
+        self.reply_fed(fed.number != 0, shape, memory, fed)
     }
 
     // Gives the fill up: its slot is all white. Numbers: 13, 1, 17.
@@ -332,7 +407,8 @@ impl State {
         }
         let shape = plan.shape;
         let fill = self.store.fill;
-        self.reply_fed(fills::cancel_slot(shape, memory, fill))
+        let fed = fills::cancel_slot(shape, memory, fill);
+        self.reply_fed(true, shape, memory, fed)
     }
 
     // Starts a run that shows slot 1 to n, at a tick reading. Numbers: 13, 1, 8, 12, 3, 15.
@@ -350,7 +426,7 @@ impl State {
         }
         Reply {
             number: 0,
-            state: self.with_phase(Phase::Running(run::begin(slot, tick))),
+            state: self.with_store(store.with_phase(Phase::Running(run::begin(slot, tick)))),
         }
     }
 
@@ -369,7 +445,7 @@ impl State {
         }
         Reply {
             number: 0,
-            state: self.with_phase(Phase::Abandoned),
+            state: self.with_store(store.with_phase(Phase::Abandoned)),
         }
     }
 
@@ -401,7 +477,7 @@ impl State {
             ≡ polled self tick (now (memory .entry)) (now (out .entry)) ⌝ }
     {
         let store = self.store;
-        let handed = runs::poll_store(
+        let left = runs::poll_store(
             &self.settings.file,
             self.settings.len,
             store,
@@ -409,9 +485,31 @@ impl State {
             memory,
             out,
         );
-        let answer = handed.answer;
-        let after = handed.phase;
-        let state = self.with_phase(after);
+        let answer = left.answer;
+        let after = left.store;
+        let state = self.with_store(after);
         Polled { answer, state }
+    }
+
+    // The summary of slot 0 to n: how many dots are black, and the first and last row with one. Numbers: 13, 3.
+    pub fn summary(self, slot: u32) -> Summarised
+        ensures { λ r. ⌜ r ≡ slotSummary self slot ⌝ }
+    {
+        let store = self.store;
+        let before = checks::check_state(&self.settings.file, self.settings.len, store);
+        let number = refusals::summary_number(before, store, slot);
+        if number != 0 {
+            return Summarised {
+                number,
+                summary: summary::empty_summary(),
+                state: self,
+            };
+        }
+        let summaries = store.summaries;
+        Summarised {
+            number: 0,
+            summary: summary::summary_at(summaries, slot as usize),
+            state: self,
+        }
     }
 }

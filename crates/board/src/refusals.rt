@@ -16,6 +16,7 @@ ghost use Rattle.board.specs.Calls.{
   startOwn,
   abandonOwn,
   writeOwn,
+  summaryOwn,
 };
 ghost use Rattle.board.specs.Facts.{numberAfter};
 use crate::Store;
@@ -139,4 +140,11 @@ pub fn write_number(before: u8, store: Store, shape: Shape, slot: u32, out_len: 
     let absent = or_number(before, store.slots < slot, 3);
     let needed = bitmap::file_length(shape.rows, shape.stride);
     or_number(absent, out_len < needed, 11)
+}
+
+// 3.
+pub fn summary_number(before: u8, store: Store, slot: u32) -> u8
+    ensures { λ r. ⌜ r ≡ numberAfter before (summaryOwn store slot) ⌝ }
+{
+    or_number(before, store.slots < slot, 3)
 }

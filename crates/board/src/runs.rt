@@ -1,14 +1,34 @@
 // Polls of the run under way.
 ghost use mathlib.Core.Path.{_≡_};
-ghost use Rattle.poll.specs.HandOut.{outcome};
-ghost use Rattle.board.specs.Calls.{inState, polled};
-ghost use Rattle.board.specs.Facts.{stateOf};
+ghost use Prim.Native.Nat.{_≤_};
+ghost use Rattle.board.specs.Calls.{polling, polled};
+ghost use Rattle.board.specs.Facts.{stateOf, leftBy};
 use crate::Store;
 use crate::checks;
+use crate::summaries;
 use poll::Answer;
 use poll::Handed;
 use run::Phase;
 use run::Tick;
+
+// What a poll leaves: its answer, and what changes of the state.
+pub struct Left {
+    pub answer: Answer,
+    pub store: Store,
+}
+
+// What a poll of a run that shows a slot leaves.
+fn leave(store: Store, slot: u32, handed: Handed) -> Left
+    requires { ⌜ slot ≤ 7 ⌝ }
+    ensures { λ r. ⌜ r ≡ leftBy store slot handed ⌝ }
+{
+    let answer = handed.answer;
+    let phase = handed.phase;
+    Left {
+        answer,
+        store: summaries::after_poll(store.with_phase(phase), slot, answer),
+    }
+}
 
 // A poll on the parts of a state: 13, 1, 9, 11 or 10, or what the run hands out.
 pub fn poll_store(
@@ -18,9 +38,8 @@ pub fn poll_store(
     tick: Tick,
     memory: &mut [u8],
     out: &mut [u8],
-) -> Handed
-    ensures { λ r. ⌜ inState (stateOf (now (file .entry)) len store)
-        (outcome (r .answer) (r .phase) (now (memory .exit)) (now (out .exit)))
+) -> Left
+    ensures { λ r. ⌜ polling (r .answer) (stateOf (now (file .entry)) len (r .store)) (now (memory .exit)) (now (out .exit))
         ≡ polled (stateOf (now (file .entry)) len store) tick (now (memory .entry)) (now (out .entry)) ⌝ }
 {
     let phase = store.phase;
@@ -28,20 +47,24 @@ pub fn poll_store(
     let number = checked.number;
     let plan = checked.plan;
     if number != 0 {
-        return Handed {
+        return Left {
             answer: Answer::Refused(number),
-            phase,
+            store,
         };
     }
     match phase {
-        Phase::Idle => Handed {
+        Phase::Idle => Left {
             answer: Answer::Refused(9),
-            phase: Phase::Idle,
+            store,
         },
-        Phase::Abandoned => Handed {
+        Phase::Abandoned => Left {
             answer: Answer::Refused(9),
-            phase: Phase::Abandoned,
+            store,
         },
-        Phase::Running(run) => poll::poll_run(&file[..len], plan, run, tick, memory, out),
+        Phase::Running(run) => leave(
+            store,
+            run.slot,
+            poll::poll_run(&file[..len], plan, run, tick, memory, out),
+        ),
     }
 }

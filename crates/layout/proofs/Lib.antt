@@ -1,7 +1,6 @@
--- `Below` has the laws of sums and searches, `Boxes` those of the list, `Division` those of edges, `Places` those of the tree and of the
+-- `Boxes` has the laws of the list, `Division` those of edges, `Places` those of the tree and of the
 -- places, `Layouts` those of row and column layout, `Answer` those of the answer, `Tree` those of any tree of boxes. `Tiling` has the
 -- theorem, `Tied` says it of the contract itself, `Longest` has the length of a good list, `Examples` layouts worked by hand.
-pub mod Below
 pub mod Boxes
 pub mod Division
 pub mod Places

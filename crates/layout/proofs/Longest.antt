@@ -8,9 +8,9 @@ use Prim.Native.Nat.{ℕ, zero, suc, _+_, _-_, _*_, _≤_, _<_}
 use native.Mathlib.Omega.{arith}
 use borrow.Author.Tests.{eq-eqb, ne-eqb}
 use lib.ListN.{length}
-use Rattle.layout.specs.Below.{sumBelow}
+use Rattle.counting.specs.Below.{sumBelow}
+use Rattle.counting.proofs.Below.{sum-none, sum-one, sum-cong, sum-swap, sum-ones}
 use Rattle.layout.specs.Boxes.{boxCount, childCount, childOf, startOf, isChild, timesIn, timesChild, listGood}
-use Rattle.layout.proofs.Below.{sum-none, sum-one, sum-cong, sum-swap, sum-ones}
 use Rattle.layout.proofs.Boxes.{good-framed, good-later, good-number, good-once, good-some}
 
 -- a box takes a byte, and two for each child

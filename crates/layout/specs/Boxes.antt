@@ -7,7 +7,7 @@ use mathlib.Core.List.{List, [], _∷_}
 use lib.Dec.{ltb, leb, eqb}
 use lib.ListN.{length, getD}
 use Rattle.lists.specs.Rules.{every, allBelow}
-use Rattle.layout.specs.Below.{sumBelow, countBelow}
+use Rattle.counting.specs.Below.{sumBelow, countBelow}
 
 abbrev pub boxCount : (list : List ℕ) → ℕ
 boxCount list = getD list 0 0

@@ -320,6 +320,15 @@ fn write(line: &[u8]) -> Command {
     }
 }
 
+// `summary SLOT`
+fn summary(line: &[u8]) -> Command {
+    let slot = read_number(line, 7);
+    if slot.next != line.len() {
+        return Command::Malformed;
+    }
+    Command::Summary { slot: slot.value }
+}
+
 // The lines of a fill.
 fn of_fill(line: &[u8], bytes: &mut [u8]) -> Command {
     if begins(line, b"begin") {
@@ -351,6 +360,17 @@ fn with_bytes(line: &[u8], bytes: &mut [u8]) -> Command {
     of_fill(line, bytes)
 }
 
+// The lines that read a slot, and those that bring a file or a payload.
+fn of_slot(line: &[u8], bytes: &mut [u8]) -> Command {
+    if begins(line, b"write") {
+        return write(line);
+    }
+    if begins(line, b"summary") {
+        return summary(line);
+    }
+    with_bytes(line, bytes)
+}
+
 // What a line asks for. The bytes that it brings stand in `bytes`.
 pub fn command_of(line: &[u8], bytes: &mut [u8]) -> Command {
     if begins(line, b"poll") {
@@ -362,11 +382,8 @@ pub fn command_of(line: &[u8], bytes: &mut [u8]) -> Command {
     if begins(line, b"abandon") {
         return alone(line, 7, Command::Abandon);
     }
-    if begins(line, b"write") {
-        return write(line);
-    }
     if begins(line, b"lend") {
         return lend(line);
     }
-    with_bytes(line, bytes)
+    of_slot(line, bytes)
 }

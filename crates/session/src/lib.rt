@@ -3,6 +3,8 @@ use board::Reply;
 use board::State;
 use poll::Answer;
 use run::Tick;
+use summary::Span;
+use summary::Summary;
 ghost use mathlib.Core.Path.{_≡_};
 ghost use lib.ListN.{length};
 ghost use Rattle.io.specs.Counts.{Counts};
@@ -34,6 +36,7 @@ pub enum Command {
     Poll { tick: u32, len: usize },
     Abandon,
     Write { slot: u32, len: usize },
+    Summary { slot: u32 },
     Begin { slot: u32 },
     Chunk { size: usize },
     Finish,
@@ -73,14 +76,19 @@ pub fn within(room: &[u8], n: usize) -> usize
 
 // ---- the calls, each on the lent part of the memory: every function here makes one, puts its answer and keeps its state
 
+// Ends the answer that was put up to index `stop`, and keeps the call's state.
+fn ended(text: &mut [u8], session: Session, state: State, stop: usize) -> Session {
+    let mut after = session;
+    after.state = state;
+    after.end = text::put_byte(text, stop, b'\n');
+    after
+}
+
 // The answer to a call that shows nothing but its number.
 fn answered(text: &mut [u8], session: Session, reply: Reply) -> Session {
-    let digits = text::put_number(text, session.end, reply.number as u32);
-    let mut after = session;
+    let stop = text::put_number(text, session.end, reply.number as u32);
     let state = reply.state;
-    after.state = state;
-    after.end = text::put_byte(text, digits, b'\n');
-    after
+    ended(text, session, state, stop)
 }
 
 // The answer to a line that is none of the script's.
@@ -259,11 +267,8 @@ fn poll_into(
     let polled = state.poll(Tick(tick), &mut memory[..lent], out);
     let answer = polled.answer;
     let stop = put_answer(text, session.end, answer, out);
-    let mut after = session;
     let next = polled.state;
-    after.state = next;
-    after.end = text::put_byte(text, stop, b'\n');
-    after
+    ended(text, session, next, stop)
 }
 
 fn poll(text: &mut [u8], memory: &mut [u8], session: Session, tick: u32, len: usize) -> Session {
@@ -289,17 +294,51 @@ fn write_into(
     let settings = reply.state.settings;
     let file = settings.file;
     let stop = put_handed(text, session.end, b"0 ", out, file_length(wide(file[1])));
-    let mut after = session;
     let next = reply.state;
-    after.state = next;
-    after.end = text::put_byte(text, stop, b'\n');
-    after
+    ended(text, session, next, stop)
 }
 
 fn write(text: &mut [u8], memory: &[u8], session: Session, slot: u32, len: usize) -> Session {
     let mut out = output_room();
     let k = within(&out, len);
     write_into(text, memory, session, slot, &mut out[..k])
+}
+
+// A space and a number.
+fn put_spaced(text: &mut [u8], at: usize, n: u32) -> usize {
+    let next = text::put_byte(text, at, b' ');
+    text::put_number(text, next, n)
+}
+
+// The first and the last row, or `none`.
+fn put_span(text: &mut [u8], at: usize, span: Span) -> usize {
+    match span {
+        Span::Blank => text::put(text, at, b" none"),
+        Span::Rows { first, last } => {
+            let next = put_spaced(text, at, first);
+            put_spaced(text, next, last)
+        }
+    }
+}
+
+// What the call for a summary gives: its number, and where that is 0 the black dots and their rows.
+fn put_summary(text: &mut [u8], at: usize, number: u8, summary: Summary) -> usize {
+    let next = text::put_number(text, at, number as u32);
+    if number != 0 {
+        return next;
+    }
+    let counted = put_spaced(text, next, summary.black);
+    let span = summary.span;
+    put_span(text, counted, span)
+}
+
+fn summary(text: &mut [u8], session: Session, slot: u32) -> Session {
+    let state = session.state;
+    let told = state.summary(slot);
+    let summary = told.summary;
+    let stop = put_summary(text, session.end, told.number, summary);
+    let next = told.state;
+    ended(text, session, next, stop)
 }
 
 // Makes a call of a fill.
@@ -366,6 +405,7 @@ pub fn call(
         Command::Poll { tick, len } => poll(text, memory, session, tick, len),
         Command::Abandon => abandon(text, memory, session),
         Command::Write { slot, len } => write(text, memory, session, slot, len),
+        Command::Summary { slot } => summary(text, session, slot),
         _ => call_with_bytes(text, memory, session, command, bytes),
     }
 }

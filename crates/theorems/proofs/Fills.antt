@@ -5,11 +5,12 @@ use mathlib.Core.Path.{_≡_, refl, sym, ap, _∙_, subst}
 use mathlib.Core.Bool.{Bool, true, false, cond, not, _&&_, false≢true}
 use mathlib.Core.List.{List, [], _∷_, _++_, map, append-nil, append-assoc}
 use Prim.Native.Nat.{ℕ, _+_, _*_, _≤_}
+use native.Mathlib.Nat.{zero-div}
 use native.Mathlib.Omega.{arith}
-use borrow.Author.Tests.{eq-eqb, ne-eqb, eqb-true, eqb-false, not-false}
+use borrow.Author.Tests.{eq-eqb, ne-eqb, eqb-true, eqb-false, not-false, not-true}
 use lib.Dec.{eqb}
-use lib.ListN.{length, take, drop, replicate}
-use lib.Seq.{take-at, drop-at, length-take-le}
+use lib.ListN.{length, set, take, drop, replicate, length-append}
+use lib.Seq.{take-at, drop-at, length-take-le, set-set}
 use Rattle.lists.specs.Lists.{overlayAt}
 use Rattle.lists.proofs.Parts.{part-length}
 use Rattle.lists.proofs.Rules.{and-left, and-right, by-cases, taken, none-both, none-parts}
@@ -22,30 +23,34 @@ use Rattle.bitmap.specs.Bitmap.{bitmapGood, readPicture}
 use Rattle.bitmap.proofs.RoundTrip.{length-read, rows-read}
 use Rattle.bitmap_prefix.specs.Begins.{beginsGood}
 use Rattle.bitmap_prefix.proofs.Begins.{both, begins-front, begins-empty}
-use Rattle.bitmap_prefix.proofs.Whole.{good-begins}
-use Rattle.fill.specs.Fills.{begunFill, emptyFill, fillOf, slotOf}
+use Rattle.bitmap_prefix.proofs.Whole.{good-begins, good-length}
+use Rattle.fill.specs.Fills.{begunFill, emptyFill, rowsCome, fillOf, slotOf}
 use Rattle.fill.specs.Feeding.{feeding, finishing, cancelling, fed, ended, whiteSlot}
 use Rattle.fill.specs.Conditions.{fillValid}
 use Rattle.fill.specs.declared.Fill.{Fill}
 use Rattle.fill.specs.declared.Fed.{Fed}
 use Rattle.fill.proofs.Kept.{none-empty}
+use Rattle.fill.proofs.Written.{rows-grow, rows-all}
 use Rattle.fill.proofs.SoFar.{fed-so-far, finished-so-far, begun-so-far}
 use Rattle.run.specs.Runs.{begun, waited}
+use Rattle.summary.specs.Summaries.{summaryOf}
+use Rattle.summary.specs.declared.Summary.{Summary}
 use Rattle.run.specs.declared.Tick.{Tick}
+use Rattle.run.specs.declared.Run.{Run}
 use Rattle.run.specs.declared.Phase.{Phase}
 use Rattle.run.specs.declared.Phase.the-variants.{Idle, Abandoned, Running}
 use Rattle.run.proofs.Valid as runs
 use Rattle.poll.specs.HandOut.{Outcome, outcome, handOut, shownAfter}
-use Rattle.board.specs.State.{fileOf, sizesOf, withPhase, withFill, stateValid, storeCases}
-use Rattle.board.specs.Calls.{isFilling, reply, uploadCases, bitmapCases, bitmapUpload, beginOwn, beginCases, fillBegin, fillOwn, fillCases, onSlot, fedReply, onFill, fillFeed, fillFinish, fillCancel}
-use Rattle.board.specs.History.{Call, uploadRegion, uploadBitmap, beginFill, feedFill, finishFill, cancelFill, start, poll, abandon, writeBitmap, number, numberGiven, givenBy, Called, ofReply, callOn, memoryAfter}
+use Rattle.board.specs.State.{fileOf, sizesOf, withPhase, withFill, withSummaries, stateValid, storeCases}
+use Rattle.board.specs.Calls.{isFilling, reply, countedIn, counted, uploadCases, bitmapCases, drawnTo, bitmapUpload, beginOwn, beginCases, fillBegin, fillOwn, fillCases, onSlot, fedReply, onFill, chunkWrites, finishWrites, fillFeed, fillFinish, fillCancel}
+use Rattle.board.specs.History.{Call, uploadRegion, uploadBitmap, beginFill, feedFill, finishFill, cancelFill, start, poll, abandon, writeBitmap, summary, number, numberGiven, givenBy, Called, ofReply, callOn, memoryAfter}
 use Rattle.board.specs.declared.State.{State}
 use Rattle.board.specs.declared.Reply.{Reply}
 use Rattle.board.proofs.States.{Tested, tested, store-free, valid-state, run-of}
 use Rattle.board.proofs.Tests.{Fillable, fillable, fill-free, upload-free}
 use Rattle.board.proofs.Effects as effects
 use Rattle.board.proofs.Effects.{Effect, Fills, feeds, finishes, cancels, At, polledTo, effect}
-use Rattle.board.proofs.Filled.{act-length, sized, filled-inside, filled-length}
+use Rattle.board.proofs.Filled.{act-length, act-unwritten, sized, filled-inside, filled-length}
 use Rattle.theorems.specs.Progress.{stateAfter}
 use Rattle.bitmap_prefix.specs.Meaning.{AreBytes}
 use Rattle.theorems.specs.Fills as spec
@@ -73,6 +78,7 @@ ofOthers (start slot tick) = true
 ofOthers (poll tick out) = true
 ofOthers abandon = true
 ofOthers (writeBitmap slot out) = true
+ofOthers (summary slot) = true
 
 -- ---- the fill and its slot are those of the bytes that came
 
@@ -103,9 +109,17 @@ module _ (slot : ℕ) (low : 1 ≤ slot) (raw : List ℕ) where
 
     -- ---- calls that are not the fill's
 
-    -- the same memory, and a valid state that keeps the settings, the slots and the fill
-    same : (phase : Phase) → stateValid (withPhase state phase) ≡ true → Going (sizesOf state) bytes (withPhase state phase) memory
-    same phase valid =
+    -- a state that keeps the settings, the slots and the fill
+    abbrev Next : Phase → List Summary → State
+    Next phase summaries = withSummaries (withPhase state phase) summaries
+
+    abbrev counts : List Summary
+    counts = state .store .summaries
+
+    -- the same memory, and such a state that is valid
+    same : (phase : Phase) (summaries : List Summary) → stateValid (Next phase summaries) ≡ true
+        → Going (sizesOf state) bytes (Next phase summaries) memory
+    same phase summaries valid =
         record { sizes = refl; tests = record { valid = valid; exact = g .tests .exact }; fill-is = g .fill-is; slot-is = g .slot-is }
 
     -- another slot has other bytes
@@ -116,9 +130,9 @@ module _ (slot : ℕ) (low : 1 ≤ slot) (raw : List ℕ) where
       other-length : length (withBytes b h memory t left) ≡ length memory
       other-length = length-with b h memory t fits left long
 
-      other : (phase : Phase) → stateValid (withPhase state phase) ≡ true
-          → Going (sizesOf state) bytes (withPhase state phase) (withBytes b h memory t left)
-      other phase valid =
+      other : (phase : Phase) (summaries : List Summary) → stateValid (Next phase summaries) ≡ true
+          → Going (sizesOf state) bytes (Next phase summaries) (withBytes b h memory t left)
+      other phase summaries valid =
           record {
             sizes = refl;
             tests = record { valid = valid; exact = other-length ∙ g .tests .exact };
@@ -127,26 +141,27 @@ module _ (slot : ℕ) (low : 1 ≤ slot) (raw : List ℕ) where
           }
 
     draws-going : (t : ℕ) (picture : List ℕ) → (slot ≡ t → ⊥) → t ≤ state .store .slots → length picture ≡ h * b
-        → Going (sizesOf state) bytes state (withPicture b h memory t picture)
+        → stateValid (counted (sizesOf state) state (withPicture b h memory t picture) t) ≡ true
+        → Going (sizesOf state) bytes (counted (sizesOf state) state (withPicture b h memory t picture) t) (withPicture b h memory t picture)
     unfolding withPicture
-    draws-going t picture apart high long =
+    draws-going t picture apart high long valid =
         other t apart (slot-fits b h (state .store .slots) (length memory) (g .tests .exact) t high) (rawOf b h picture)
-        (length-raw b h picture long) (state .store .phase) (g .tests .valid)
+        (length-raw b h picture long) (state .store .phase) _ valid
 
     -- a poll hands out from the memory; done copies a slot to slot 0
-    module _ (tick : Tick) (out : List ℕ) where
+    module _ (run : Run) (tick : Tick) (out : List ℕ) where
       abbrev Stays : Outcome → Type 0
       Stays o =
-          stateValid (polledTo state memory tick out o .state) ≡ true
-          → Going (sizesOf state) bytes (polledTo state memory tick out o .state) (polledTo state memory tick out o .memory)
+          stateValid (polledTo state memory run tick out o .state) ≡ true
+          → Going (sizesOf state) bytes (polledTo state memory run tick out o .state) (polledTo state memory run tick out o .memory)
 
-      shown-going : (t : ℕ) → t ≤ state .store .slots → stateValid (withPhase state Idle) ≡ true
-          → Going (sizesOf state) bytes (withPhase state Idle) (shownAfter (fileOf state) memory t)
+      shown-going : (t : ℕ) (summaries : List Summary) → t ≤ state .store .slots → stateValid (Next Idle summaries) ≡ true
+          → Going (sizesOf state) bytes (Next Idle summaries) (shownAfter (fileOf state) memory t)
       unfolding slotBytes
-      shown-going t high valid =
+      shown-going t summaries high valid =
           let bound = slot-fits b h (state .store .slots) (length memory) (g .tests .exact) in
           other 0 (λ e. absurd (omega arith)) (bound 0 (omega arith)) (slotBytes b h memory t) (length-slot t (bound t high))
-          Idle valid
+          Idle summaries valid
         where
           length-slot : (u : ℕ) → u * (h * b) + h * b ≤ length memory → length (slotBytes b h memory u) ≡ h * b
           length-slot u fits = part-length (u * (h * b)) (h * b) memory fits
@@ -155,22 +170,24 @@ module _ (slot : ℕ) (low : 1 ≤ slot) (raw : List ℕ) where
         → Going (sizesOf state) bytes (called .state) (called .memory)
     others (effects.refuses call given e) o = g
     others (effects.reads call out′ e t) o = g
+    others (effects.tells t held u) o = g
     others (effects.draws call t picture e u may long) o =
         draws-going t picture (λ q. eqb-false (state .store .fill .slot) t (may .not-filled) (its-slot ∙ q)) (may .takes .high) long
+        (leaves-valid state memory (g .tests .valid) (effects.draws call t picture e u may long))
     others (effects.begins t u may) o =
         absurd (omega (arith, low, its-slot, eqb-true (state .store .fill .slot) 0 (not-false _ (may .none-filled))))
-    others (effects.fills call act (feeds chunk) t is) o = absurd (false≢true o)
-    others (effects.fills call act finishes t is) o = absurd (false≢true o)
-    others (effects.fills call act cancels t is) o = absurd (false≢true o)
+    others (effects.fills call act writes (feeds chunk) t is) o = absurd (false≢true o)
+    others (effects.fills call act writes finishes t is) o = absurd (false≢true o)
+    others (effects.fills call act writes cancels t is) o = absurd (false≢true o)
     others (effects.starts t tick u may) o =
-        same (Running (begun t tick)) (leaves-valid state memory (g .tests .valid) (effects.starts t tick u may))
-    others (effects.abandons t is) o = same Abandoned (leaves-valid state memory (g .tests .valid) (effects.abandons t is))
+        same (Running (begun t tick)) counts (leaves-valid state memory (g .tests .valid) (effects.starts t tick u may))
+    others (effects.abandons t is) o = same Abandoned counts (leaves-valid state memory (g .tests .valid) (effects.abandons t is))
     others (effects.waits tick out run moment at before) o =
-        same (Running (waited run tick moment)) (leaves-valid state memory (g .tests .valid) (effects.waits tick out run moment at before))
+        same (Running (waited run tick moment)) counts (leaves-valid state memory (g .tests .valid) (effects.waits tick out run moment at before))
     others (effects.hands tick out run moment at due) o =
-        by-handed (fileOf state) run tick moment memory out (Stays tick out) (λ step next valid. same _ valid)
-        (λ first stage frame row valid. same _ valid)
-        (shown-going tick out (run .slot)
+        by-handed (fileOf state) run tick moment memory out (Stays run tick out) (λ step next valid. same _ _ valid)
+        (λ first stage frame row valid. same _ _ valid)
+        (shown-going run tick out (run .slot) _
         (runs.valid (fileOf state) (state .store .slots) run (run-of state run (g .tests .valid) (at .runs)) .high))
         (run .next)
         (leaves-valid state memory (g .tests .valid) (effects.hands tick out run moment at due))
@@ -191,21 +208,29 @@ module _ (slot : ℕ) (low : 1 ≤ slot) (raw : List ℕ) where
     held-length =
         sym (ap length (g .slot-is)) ∙ subst (λ (k : ℕ). length (slotBytes b h memory k) ≡ h * b) its-slot (filled-length state memory (g .tests))
 
+    -- the reply to this and what it leaves in the slot
+    abbrev Done : (writes : Fill → Fed → Bool) → Fed × List ℕ → Reply × List ℕ
+    Done writes r =
+        let after : List ℕ = withBytes b h memory slot (r .1) in
+        (fedReply (sizesOf state) state (writes (fillOf s slot bytes) (r .0)) after (r .0), after)
+
     -- what is done is done to the fill and the slot of the bytes that came
-    acted : (act : Fill → List ℕ → Fed × List ℕ)
-        → onFill state memory (act (state .store .fill))
-        ≡ (fedReply state (act (fillOf s slot bytes) held .0), withBytes b h memory slot (act (fillOf s slot bytes) held .1))
-    acted act =
+    acted : (act : Fill → List ℕ → Fed × List ℕ) (writes : Fill → Fed → Bool)
+        → onFill state memory (act (state .store .fill)) (writes (state .store .fill)) ≡ Done writes (act (fillOf s slot bytes) held)
+    acted act writes =
         taken (fillCases state (length memory)) (λ n. (reply n state, memory)) _
         (none-both (store-free state (length memory) (g .tests)) (fill-free (state .store) filling))
         ∙ ap
         (λ (f : Fill).
-        (fedReply state (act f (slotBytes b h memory (f .slot)) .0), withBytes b h memory (f .slot) (act f (slotBytes b h memory (f .slot)) .1)))
+        let r : Fed × List ℕ = act f (slotBytes b h memory (f .slot)) in
+        let after : List ℕ = withBytes b h memory (f .slot) (r .1) in
+        (fedReply (sizesOf state) state (writes f (r .0)) after (r .0), after))
         (g .fill-is)
         ∙ rw (filled-slot s bytes, g .slot-is)
 
     -- what a call answers and leaves in the slot, where it does this
-    module _ {call : Call} (act : Fill → List ℕ → Fed × List ℕ) (kind : Fills (sizesOf state) (fillOf s slot bytes) call (act (fillOf s slot bytes)))
+    module _ {call : Call} (act : Fill → List ℕ → Fed × List ℕ) (writes : Fill → Fed → Bool)
+        (kind : Fills (sizesOf state) (fillOf s slot bytes) call (act (fillOf s slot bytes)) (writes (fillOf s slot bytes)))
         {r : Fed × List ℕ} (is : act (fillOf s slot bytes) held ≡ r) where
       left-length : length (r .1) ≡ h * b
       left-length =
@@ -213,15 +238,13 @@ module _ (slot : ℕ) (low : 1 ≤ slot) (raw : List ℕ) where
           ∙ act-length kind (sized state memory (g .tests))
           (ap (fillValid b h s) (sym (g .fill-is)) ∙ valid-state state (g .tests .valid) .fill-good) held held-length
 
-      whole : onFill state memory (act (state .store .fill)) ≡ (fedReply state (r .0), withBytes b h memory slot (r .1))
-      whole =
-          acted act
-          ∙ ap (λ (q : Fed × List ℕ). (fedReply state (q .0), withBytes b h memory slot (q .1))) is
+      whole : onFill state memory (act (state .store .fill)) (writes (state .store .fill)) ≡ Done writes r
+      whole = acted act writes ∙ ap (Done writes) is
 
-      answer-is : onFill state memory (act (state .store .fill)) .0 .number ≡ r .0 .number
+      answer-is : onFill state memory (act (state .store .fill)) (writes (state .store .fill)) .0 .number ≡ r .0 .number
       answer-is = ap (λ (q : Reply × List ℕ). q .0 .number) whole
 
-      slot-after : slotPicture b h (onFill state memory (act (state .store .fill)) .1) slot ≡ pictureOf b h (r .1)
+      slot-after : slotPicture b h (onFill state memory (act (state .store .fill)) (writes (state .store .fill)) .1) slot ≡ pictureOf b h (r .1)
       unfolding slotPicture
       slot-after =
           ap (λ (q : Reply × List ℕ). pictureOf b h (slotBytes b h (q .1) slot)) whole
@@ -233,9 +256,9 @@ module _ (slot : ℕ) (low : 1 ≤ slot) (raw : List ℕ) where
     unfolding fillFeed
     fed-going chunk is =
         let act : Fill → List ℕ → Fed × List ℕ = λ f. feeding b h s f chunk in
-        let long = left-length act (feeds chunk) is in
+        let long = left-length act (chunkWrites s) (feeds chunk) is in
         subst (λ (q : Reply × List ℕ). stateValid (q .0 .state) ≡ true → Going (sizesOf state) (bytes ++ chunk) (q .0 .state) (q .1))
-        (sym (whole act (feeds chunk) is))
+        (sym (whole act (chunkWrites s) (feeds chunk) is))
         (λ valid.
         record {
           sizes = refl;
@@ -265,18 +288,19 @@ module _ (slot : ℕ) (low : 1 ≤ slot) (raw : List ℕ) (shape : Shape) (z : S
   Answers k r q = (q .0 .number ≡ r .0 .number) × (slotPicture (k .bytes) (k .rows) (q .1) slot ≡ pictureOf (k .bytes) (k .rows) (r .1))
 
   answered : {bytes : List ℕ} {state : State} {memory : List ℕ} → So bytes state memory → (call : Call)
-      → (act : Shape → Fill → List ℕ → Fed × List ℕ) → ((k : Shape) (f : Fill) → Fills k f call (act k f)) → {r : Fed × List ℕ}
+      → (act : Shape → Fill → List ℕ → Fed × List ℕ) (writes : Shape → Fill → Fed → Bool)
+      → ((k : Shape) (f : Fill) → Fills k f call (act k f) (writes k f)) → {r : Fed × List ℕ}
       → act shape (fillOf s₁ slot bytes) (slotOf b₁ h₁ s₁ bytes raw) ≡ r
-      → Answers shape r (onFill state memory (act (sizesOf state) (state .store .fill)))
-  answered {bytes} {state} {memory} g call act kind {r} is =
+      → Answers shape r (onFill state memory (act (sizesOf state) (state .store .fill)) (writes (sizesOf state) (state .store .fill)))
+  answered {bytes} {state} {memory} g call act writes kind {r} is =
       subst
       (λ (k : Shape).
       Going slot low raw k bytes state memory → act k (fillOf (k .stride) slot bytes) (slotOf (k .bytes) (k .rows) (k .stride) bytes raw) ≡ r
-      → Answers k r (onFill state memory (act (sizesOf state) (state .store .fill))))
+      → Answers k r (onFill state memory (act (sizesOf state) (state .store .fill)) (writes (sizesOf state) (state .store .fill))))
       (g .sizes)
       (λ g′ is′.
       let k = sizesOf state in
-      (answer-is slot low raw g′ (act k) (kind k _) is′, slot-after slot low raw g′ (act k) (kind k _) is′))
+      (answer-is slot low raw g′ (act k) (writes k) (kind k _) is′, slot-after slot low raw g′ (act k) (writes k) (kind k _) is′))
       g is
 
   module _ {bytes : List ℕ} {state : State} {memory : List ℕ} (g : So bytes state memory) (are : Bytes bytes)
@@ -295,7 +319,7 @@ module _ (slot : ℕ) (low : 1 ≤ slot) (raw : List ℕ) (shape : Shape) (z : S
       unfolding fillFeed
       chunk-answers {t} e =
           let taken-in : Fed × List ℕ = (fed 0 (fillOf s₁ slot (bytes ++ chunk)), slotOf b₁ h₁ s₁ (bytes ++ chunk) raw) in
-          answered g (feedFill chunk) (λ k f. feeding (k .bytes) (k .rows) (k .stride) f chunk) (λ k f. feeds chunk)
+          answered g (feedFill chunk) (λ k f. feeding (k .bytes) (k .rows) (k .stride) f chunk) (λ k. chunkWrites (k .stride)) (λ k f. feeds chunk)
           {r = cond t taken-in (ended b₁ h₁ 4)} (feeding-is ∙ ap (λ (u : Bool). cond u taken-in (ended b₁ h₁ 4)) e)
 
       chunk-going : beginsGood b₁ h₁ s₁ (bytes ++ chunk) ≡ true
@@ -314,14 +338,14 @@ module _ (slot : ℕ) (low : 1 ≤ slot) (raw : List ℕ) (shape : Shape) (z : S
     unfolding fillFinish
     finish-answers {t} e =
         let whole-file : Fed × List ℕ = (fed 0 emptyFill, rawOf b₁ h₁ (readPicture b₁ h₁ s₁ bytes)) in
-        answered g finishFill (λ k f. finishing (k .bytes) (k .rows) (k .stride) f) (λ k f. finishes)
+        answered g finishFill (λ k f. finishing (k .bytes) (k .rows) (k .stride) f) (λ k f. finishWrites) (λ k f. finishes)
         {r = cond t whole-file (ended b₁ h₁ 4)}
         (finished-so-far b₁ h₁ s₁ (z .some) (z .narrow) (z .within) (z .small) (z .low) slot raw rows bytes are begun
         ∙ ap (λ (u : Bool). cond u whole-file (ended b₁ h₁ 4)) e)
 
     cancel-answers : Answers shape (ended b₁ h₁ 0) (fillCancel state memory)
     unfolding fillCancel cancelling
-    cancel-answers = answered g cancelFill (λ k f old. cancelling (k .bytes) (k .rows)) (λ k f. cancels) {r = ended b₁ h₁ 0} refl
+    cancel-answers = answered g cancelFill (λ k f old. cancelling (k .bytes) (k .rows)) (λ k f fed. true) (λ k f. cancels) {r = ended b₁ h₁ 0} refl
 
     -- a call that is not the fill's
     other-going : (call : Call) → ofOthers call ≡ true → So bytes (callOn state memory call .state) (callOn state memory call .memory)
@@ -344,6 +368,7 @@ module _ (slot : ℕ) (low : 1 ≤ slot) (raw : List ℕ) (shape : Shape) (z : S
     step (poll tick out) k new e = rw (append-nil bytes) (other-going (poll tick out) refl)
     step abandon k new e = rw (append-nil bytes) (other-going abandon refl)
     step (writeBitmap t out) k new e = rw (append-nil bytes) (other-going (writeBitmap t out) refl)
+    step (summary t) k new e = rw (append-nil bytes) (other-going (summary t) refl)
 
   -- ---- every list of calls
 
@@ -503,6 +528,7 @@ what-feeds (start slot tick) = none refl
 what-feeds (poll tick out) = none refl
 what-feeds abandon = none refl
 what-feeds (writeBitmap slot out) = none refl
+what-feeds (summary slot) = none refl
 
 sent-append : (calls more : List Call) → sentBy (calls ++ more) ≡ sentBy calls ++ sentBy more
 sent-append [] more = refl
@@ -601,12 +627,18 @@ module _ (state : State) (memory : List ℕ) (slot : ℕ) (accepted : fillBegin 
   abbrev low₃ : 1 ≤ slot
   low₃ = low state memory slot accepted bytes
 
-  -- the state and the memory with these bytes come
-  abbrev S : List ℕ → State
-  S sent = withFill state (fillOf s₃ slot sent)
-
+  -- the memory with these bytes come, the summaries, of which that of the slot is counted once a row is whole, and the state
   abbrev M : List ℕ → List ℕ
   M sent = withBytes b₃ h₃ memory slot (slotOf b₃ h₃ s₃ sent its-raw)
+
+  abbrev before : List Summary
+  before = state .store .summaries
+
+  abbrev C : List ℕ → List Summary
+  C sent = cond (eqb (rowsCome s₃ (length sent)) 0) before (countedIn (sizesOf state) (M sent) slot before)
+
+  abbrev S : List ℕ → State
+  S sent = withSummaries (withFill state (fillOf s₃ slot sent)) (C sent)
 
   abbrev Here : List ℕ → Type 0
   Here sent = Going slot low₃ its-raw (sizesOf state) sent (S sent) (M sent)
@@ -617,13 +649,19 @@ module _ (state : State) (memory : List ℕ) (slot : ℕ) (accepted : fillBegin 
     replaced left long =
         with-twice b₃ h₃ memory slot _ left (omega (arith, inside-memory)) (held-length slot low₃ its-raw g ∙ sym long)
 
-    module _ {call : Call} (act : Fill → List ℕ → Fed × List ℕ)
-        (kind : Fills (sizesOf state) (fillOf s₃ slot sent) call (act (fillOf s₃ slot sent))) {r : Fed × List ℕ}
-        (is : act (fillOf s₃ slot sent) (slotOf b₃ h₃ s₃ sent its-raw) ≡ r) where
-      on-fill : onFill (S sent) (M sent) (act (fillOf s₃ slot sent)) ≡ (fedReply state (r .0), withBytes b₃ h₃ memory slot (r .1))
+    module _ {call : Call} (act : Fill → List ℕ → Fed × List ℕ) (writes : Fill → Fed → Bool)
+        (kind : Fills (sizesOf state) (fillOf s₃ slot sent) call (act (fillOf s₃ slot sent)) (writes (fillOf s₃ slot sent)))
+        {r : Fed × List ℕ} (is : act (fillOf s₃ slot sent) (slotOf b₃ h₃ s₃ sent its-raw) ≡ r) where
+      abbrev after : List ℕ
+      after = withBytes b₃ h₃ memory slot (r .1)
+
+      on-fill : onFill (S sent) (M sent) (act (fillOf s₃ slot sent)) (writes (fillOf s₃ slot sent))
+          ≡ (fedReply (sizesOf state) (S sent) (writes (fillOf s₃ slot sent) (r .0)) after (r .0), after)
       on-fill =
-          whole slot low₃ its-raw g act kind is
-          ∙ ap (λ (l : List ℕ). (fedReply state (r .0), l)) (replaced (r .1) (left-length slot low₃ its-raw g act kind is))
+          whole slot low₃ its-raw g act writes kind is
+          ∙ ap
+          (λ (l : List ℕ). (fedReply (sizesOf state) (S sent) (writes (fillOf s₃ slot sent) (r .0)) l (r .0), l))
+          (replaced (r .1) (left-length slot low₃ its-raw g act writes kind is))
 
   module _ (sent : List ℕ) (g : Here sent) (are : Bytes sent) (begun : begins state sent ≡ true) where
     abbrev z₃ : Sized (sizesOf state)
@@ -632,28 +670,103 @@ module _ (state : State) (memory : List ℕ) (slot : ℕ) (accepted : fillBegin 
     rows₃ : Rows b₃ h₃ its-raw
     rows₃ = rows state memory slot accepted bytes
 
-    fed-on : (chunk : List ℕ) → Bytes chunk → begins state (sent ++ chunk) ≡ true
-        → fillFeed (S sent) (M sent) chunk ≡ (reply 0 (S (sent ++ chunk)), M (sent ++ chunk))
-    unfolding fillFeed
-    fed-on chunk new e =
-        let taken-in : Fed × List ℕ = (fed 0 (fillOf s₃ slot (sent ++ chunk)), slotOf b₃ h₃ s₃ (sent ++ chunk) its-raw) in
-        on-fill sent g (λ f. feeding b₃ h₃ s₃ f chunk) (feeds chunk) {r = taken-in}
-        (feeding-is slot low₃ its-raw (sizesOf state) z₃ rows₃ g are begun chunk new
-        ∙ ap (λ (u : Bool). cond u taken-in (ended b₃ h₃ 4)) e)
+    -- a chunk that makes no row whole leaves the slot, and its summary; one that does leaves a fresh count
+    module _ (chunk : List ℕ) (new : Bytes chunk) (e : begins state (sent ++ chunk) ≡ true) where
+      abbrev taken-in : Fed × List ℕ
+      taken-in = (fed 0 (fillOf s₃ slot (sent ++ chunk)), slotOf b₃ h₃ s₃ (sent ++ chunk) its-raw)
+
+      chunk-is : feeding b₃ h₃ s₃ (fillOf s₃ slot sent) chunk (slotOf b₃ h₃ s₃ sent its-raw) ≡ taken-in
+      chunk-is =
+          feeding-is slot low₃ its-raw (sizesOf state) z₃ rows₃ g are begun chunk new
+          ∙ ap (λ (u : Bool). cond u taken-in (ended b₃ h₃ 4)) e
+
+      abbrev wrote : Bool
+      wrote = chunkWrites s₃ (fillOf s₃ slot sent) (fed 0 (fillOf s₃ slot (sent ++ chunk)))
+
+      wrote-is : wrote ≡ not (eqb (rowsCome s₃ (length (sent ++ chunk))) (rowsCome s₃ (length sent)))
+      unfolding fillOf
+      wrote-is = refl
+
+      unwritten : wrote ≡ false → M sent ≡ M (sent ++ chunk)
+      unwritten w =
+          ap (withBytes b₃ h₃ memory slot)
+          (sym (act-unwritten {fill = fillOf s₃ slot sent} (feeds chunk) z₃ (slotOf b₃ h₃ s₃ sent its-raw)
+          (ap (λ (r : Fed × List ℕ). chunkWrites s₃ (fillOf s₃ slot sent) (r .0)) chunk-is ∙ w))
+          ∙ ap (λ (r : Fed × List ℕ). r .1) chunk-is)
+
+      grown : rowsCome s₃ (length sent) ≤ rowsCome s₃ (length (sent ++ chunk))
+      grown = rows-grow s₃ (omega (arith, z₃ .some, z₃ .within)) (length sent) (length (sent ++ chunk)) (simp length-append (omega arith))
+
+      counted-next : cond wrote (countedIn (sizesOf state) (M (sent ++ chunk)) slot (C sent)) (C sent) ≡ C (sent ++ chunk)
+      counted-next = go wrote refl
+        where
+          some-rows : ℕ
+          some-rows = rowsCome s₃ (length (sent ++ chunk))
+
+          fresh : Summary
+          fresh = summaryOf b₃ h₃ (slotPicture b₃ h₃ (M (sent ++ chunk)) slot)
+
+          again : (t : Bool) (held : Summary) → set (cond t before (set before slot held)) slot fresh ≡ set before slot fresh
+          again true held = refl
+          again false held = set-set before slot held fresh
+
+          go : (w : Bool) → wrote ≡ w → cond w (countedIn (sizesOf state) (M (sent ++ chunk)) slot (C sent)) (C sent) ≡ C (sent ++ chunk)
+          go true w =
+              let d = eqb-false some-rows (rowsCome s₃ (length sent)) (not-true _ (sym wrote-is ∙ w)) in
+              let n : (some-rows ≡ 0 → ⊥) = λ z. d (omega (arith, z, grown)) in
+              again (eqb (rowsCome s₃ (length sent)) 0) _ ∙ sym (ap (λ (t : Bool). cond t before (set before slot fresh)) (ne-eqb some-rows 0 n))
+          go false w =
+              let q : some-rows ≡ rowsCome s₃ (length sent) = eqb-true _ _ (not-false _ (sym wrote-is ∙ w)) in
+              ap (λ (l : List ℕ). cond (eqb (rowsCome s₃ (length sent)) 0) before (countedIn (sizesOf state) l slot before)) (unwritten w)
+              ∙ ap (λ (k : ℕ). cond (eqb k 0) before (countedIn (sizesOf state) (M (sent ++ chunk)) slot before)) (sym q)
+
+      fed-on : fillFeed (S sent) (M sent) chunk ≡ (reply 0 (S (sent ++ chunk)), M (sent ++ chunk))
+      unfolding fillFeed
+      fed-on =
+          on-fill sent g (λ f. feeding b₃ h₃ s₃ f chunk) (chunkWrites s₃) (feeds chunk) {r = taken-in} chunk-is
+          ∙ ap
+          (λ (c : List Summary). (reply 0 (withSummaries (withFill state (fillOf s₃ slot (sent ++ chunk))) c), M (sent ++ chunk)))
+          (ap (λ (k : ℕ). cond wrote (countedIn (sizesOf state) (M (sent ++ chunk)) k (C sent)) (C sent)) (filled-slot slot low₃ its-raw s₃ sent)
+          ∙ counted-next)
 
     fed-here : (chunk : List ℕ) → Bytes chunk → begins state (sent ++ chunk) ≡ true → Here (sent ++ chunk)
     fed-here chunk new e =
         subst (λ (r : Reply × List ℕ). Going slot low₃ its-raw (sizesOf state) (sent ++ chunk) (r .0 .state) (r .1)) (fed-on chunk new e)
         (chunk-going slot low₃ its-raw (sizesOf state) z₃ rows₃ g are begun chunk new e)
 
-    finished-on : good state sent ≡ true
-        → fillFinish (S sent) (M sent) ≡ (reply 0 (withFill state emptyFill), withPicture b₃ h₃ memory slot (pictureIn state sent))
-    unfolding fillFinish withPicture
-    finished-on e =
-        let whole-file : Fed × List ℕ = (fed 0 emptyFill, rawOf b₃ h₃ (readPicture b₃ h₃ s₃ sent)) in
-        on-fill sent g (λ f. finishing b₃ h₃ s₃ f) finishes {r = whole-file}
-        (finished-so-far b₃ h₃ s₃ (z₃ .some) (z₃ .narrow) (z₃ .within) (z₃ .small) (z₃ .low) slot its-raw rows₃ sent are begun
-        ∙ ap (λ (u : Bool). cond u whole-file (ended b₃ h₃ 4)) e)
+    -- finish leaves all that, but for the fill; a good file has made every row whole
+    module _ (e : good state sent ≡ true) where
+      abbrev whole-file : Fed × List ℕ
+      whole-file = (fed 0 emptyFill, rawOf b₃ h₃ (readPicture b₃ h₃ s₃ sent))
+
+      finish-is : finishing b₃ h₃ s₃ (fillOf s₃ slot sent) (slotOf b₃ h₃ s₃ sent its-raw) ≡ whole-file
+      finish-is =
+          finished-so-far b₃ h₃ s₃ (z₃ .some) (z₃ .narrow) (z₃ .within) (z₃ .small) (z₃ .low) slot its-raw rows₃ sent are begun
+          ∙ ap (λ (u : Bool). cond u whole-file (ended b₃ h₃ 4)) e
+
+      all-held : M sent ≡ withPicture b₃ h₃ memory slot (pictureIn state sent)
+      unfolding withPicture
+      all-held =
+          ap (withBytes b₃ h₃ memory slot)
+          (sym (act-unwritten {fill = fillOf s₃ slot sent} finishes z₃ (slotOf b₃ h₃ s₃ sent its-raw)
+          (ap (λ (r : Fed × List ℕ). finishWrites (r .0)) finish-is))
+          ∙ ap (λ (r : Fed × List ℕ). r .1) finish-is)
+
+      all-counted : C sent ≡ countedIn (sizesOf state) (M sent) slot before
+      all-counted =
+          let is = good-length b₃ h₃ s₃ sent e in
+          let rows : rowsCome s₃ (length sent) ≡ h₃ = ap (rowsCome s₃) is ∙ rows-all h₃ s₃ (omega (arith, z₃ .some, z₃ .within)) in
+          let n : (rowsCome s₃ (length sent) ≡ 0 → ⊥) = λ q. absurd (omega (arith, q, rows, z₃ .high)) in
+          ap (λ (t : Bool). cond t before (countedIn (sizesOf state) (M sent) slot before)) (ne-eqb (rowsCome s₃ (length sent)) 0 n)
+
+      finished-on : fillFinish (S sent) (M sent) ≡ drawnTo (withFill state emptyFill) slot (withPicture b₃ h₃ memory slot (pictureIn state sent))
+      unfolding fillFinish withPicture
+      finished-on =
+          on-fill sent g (λ f. finishing b₃ h₃ s₃ f) (λ f. finishWrites) finishes {r = whole-file} finish-is
+          ∙ ap
+          (λ (c : List Summary).
+          (reply 0 (withSummaries (withFill state emptyFill) c), withBytes b₃ h₃ memory slot (rawOf b₃ h₃ (readPicture b₃ h₃ s₃ sent))))
+          (all-counted ∙ ap (λ (l : List ℕ). countedIn (sizesOf state) l slot before) all-held)
 
   -- the chunks one after the other
   all-fed : (chunks : List (List ℕ)) (sent : List ℕ) → Here sent → Bytes sent → Bytes (sentBy (map feedFill chunks))
@@ -678,6 +791,9 @@ module _ (state : State) (memory : List ℕ) (slot : ℕ) (accepted : fillBegin 
       )
 
   -- the begin
+  none-counted : C [] ≡ before
+  none-counted = rw (zero-div s₃)
+
   memory-0 : memory ≡ M []
   memory-0 =
       sym (with-own b₃ h₃ memory slot inside-memory)
@@ -687,6 +803,7 @@ module _ (state : State) (memory : List ℕ) (slot : ℕ) (accepted : fillBegin 
   state-0 =
       ap (λ (r : Reply). r .state) (starts state memory slot accepted bytes .0)
       ∙ ap (withFill state) (so state memory slot accepted bytes .0)
+      ∙ ap (withSummaries (withFill state (fillOf s₃ slot []))) (sym none-counted)
 
   here-0 : Here []
   here-0 =
@@ -728,7 +845,7 @@ module _ (state : State) (memory : List ℕ) (slot : ℕ) (accepted : fillBegin 
         ∙ ap (λ (q : State). fillFinish q (memoryAfter (S []) (M []) calls)) (fed-all .0)
         ∙ ap (λ (l : List ℕ). fillFinish (S (sentBy calls)) l) (fed-all .1)
         ∙ finished-on (sentBy calls) (fed-all .2) sent fine-begins fine
-        ∙ ap (λ (q : State). (reply 0 q, withPicture b₃ h₃ memory slot (pictureIn state (sentBy calls)))) none-before
+        ∙ ap (λ (q : State). drawnTo q slot (withPicture b₃ h₃ memory slot (pictureIn state (sentBy calls)))) none-before
         ∙ sym (uploads state memory slot (sentBy calls) (t .1) (t .2 .upload) fine)
 
 pub fills-as-whole : FillsAsWhole

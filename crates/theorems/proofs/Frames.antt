@@ -17,6 +17,7 @@ use Rattle.settings.specs.Settings.{Step, write, wait, malformed, startSteps, s
 use Rattle.picture.specs.Slots.{slotPicture, withPicture, pictureRow}
 use Rattle.picture.proofs.Slots.{others-kept}
 use Rattle.balance.specs.Sums.{pictureOfStage}
+use Rattle.summary.specs.declared.Summary.{Summary}
 use Rattle.run.specs.Due.{runFrames}
 use Rattle.run.specs.Runs.{begun}
 use Rattle.run.specs.declared.Tick.{Tick}
@@ -27,9 +28,9 @@ use Rattle.run.specs.declared.Phase.{Phase}
 use Rattle.run.specs.declared.Phase.the-variants.{Idle, Abandoned, Running}
 use Rattle.poll.specs.HandOut.{Outcome, outcome, stepBytes, lineBytes, handOut}
 use Rattle.poll.specs.declared.Answer.the-variants as answer
-use Rattle.board.specs.State.{fileOf, sizesOf, isRunsSlot, withPhase, stateValid}
+use Rattle.board.specs.State.{fileOf, sizesOf, isRunsSlot, withPhase, withSummaries, stateValid}
 use Rattle.board.specs.Calls.{reply, startCases, starting}
-use Rattle.board.specs.History.{Call, start, Given, number, answered, isAccepted, isDoneAnswer, isDone, Event, event, outOf, Called, callOn, eventsOf}
+use Rattle.board.specs.History.{Call, start, summary, Given, number, answered, summed, isAccepted, isDoneAnswer, isDone, Event, event, outOf, Called, callOn, eventsOf}
 use Rattle.board.specs.declared.State.{State}
 use Rattle.board.specs.declared.Reply.{Reply}
 use Rattle.board.proofs.States.{valid-state}
@@ -144,6 +145,7 @@ Polled file shown new slot (outcome given phase memory out) =
 -- a refusal answers no done
 refused-done : (given : Given) → isAccepted given ≡ false → isDone given ≡ true → ⊥
 refused-done (number n) e d = false≢true d
+refused-done (summed n held) e d = false≢true d
 refused-done (answered (answer.Refused n)) e d = false≢true d
 refused-done (answered (answer.Write l)) e d = false≢true d
 refused-done (answered (answer.Line l)) e d = false≢true d
@@ -155,13 +157,18 @@ module _ (state : State) (memory shown new : List ℕ) (slot : ℕ) (on : runsOn
   abbrev Left : Called → Type 0
   Left = KeepsPictures (fileOf state) shown new slot memory
 
-  -- the phase stays, and no run is done
-  stays : (call : Call) (given : Given) → (isDone given ≡ true → ⊥) → (memory′ out′ : List ℕ)
-      → Holds (fileOf state) shown new slot memory′ (state .store .phase) → Left (leaving call memory given state memory′ out′)
-  stays call given none memory′ out′ held = record { lent = refl; holds = held; over = λ d. absurd (none d) }
+  abbrev counts : List Summary
+  counts = state .store .summaries
 
-  polled-left : (tick : Tick) (out : List ℕ) (o : Outcome) → Polled (fileOf state) shown new slot o → Left (polledTo state memory tick out o)
-  polled-left tick out (outcome given phase memory′ out′) left = record { lent = refl; holds = left .0; over = left .1 }
+  -- the phase stays, and no run is done
+  stays : (call : Call) (given : Given) → (isDone given ≡ true → ⊥) → (summaries : List Summary) (memory′ out′ : List ℕ)
+      → Holds (fileOf state) shown new slot memory′ (state .store .phase)
+      → Left (leaving call memory given (withSummaries state summaries) memory′ out′)
+  stays call given none summaries memory′ out′ held = record { lent = refl; holds = held; over = λ d. absurd (none d) }
+
+  polled-left : (run : Run) (tick : Tick) (out : List ℕ) (o : Outcome) → Polled (fileOf state) shown new slot o
+      → Left (polledTo state memory run tick out o)
+  polled-left run tick out (outcome given phase memory′ out′) left = record { lent = refl; holds = left .0; over = left .1 }
 
   -- a run under way has its pictures in the memory
   held-by : (run : Run) → state .store .phase ≡ Running run → (run′ : Run) → Holds (fileOf state) shown new slot memory (Running run′)
@@ -171,20 +178,21 @@ module _ (state : State) (memory shown new : List ℕ) (slot : ℕ) (on : runsOn
       again (same s n) = same s n
 
   effect-leaves : {call : Call} {called : Called} → Effect state memory call called → turns (called .seen) ≡ false → Left called
-  effect-leaves (effects.refuses call given e) f = stays call given (refused-done given e) memory (outOf call) holds
-  effect-leaves (effects.reads call out′ e t) f = stays call (number 0) false≢true memory out′ holds
+  effect-leaves (effects.refuses call given e) f = stays call given (refused-done given e) counts memory (outOf call) holds
+  effect-leaves (effects.reads call out′ e t) f = stays call (number 0) false≢true counts memory out′ holds
+  effect-leaves (effects.tells t held u) f = stays (summary t) (summed 0 held) false≢true counts memory [] holds
   effect-leaves (effects.draws call t picture e u may long) f =
       let memory′ = withPicture (sizesOf state .bytes) (sizesOf state .rows) memory t picture in
-      stays call (number 0) false≢true memory′ (outOf call)
+      stays call (number 0) false≢true _ memory′ (outOf call)
       (other-changed (fileOf state) shown new slot memory memory′ t (may .takes .low)
       (others-kept (sizesOf state .bytes) (sizesOf state .rows) (state .store .slots) memory (u .exact) t (may .takes .high) picture long)
       (state .store .phase) on (may .not-runs) holds)
   effect-leaves (effects.begins t u may) f = record { lent = refl; holds = holds; over = λ d. absurd (false≢true d) }
-  effect-leaves (effects.fills call act kind t is) f =
+  effect-leaves (effects.fills call act writes kind t is) f =
       record {
         lent = refl;
         holds =
-            other-changed (fileOf state) shown new slot memory (filledTo state memory call act .memory) (state .store .fill .slot)
+            other-changed (fileOf state) shown new slot memory (filledTo state memory call act writes .memory) (state .store .fill .slot)
             (filled-low (state .store .fill) is) (filled-others state memory t kind) (state .store .phase) on
             (valid-state state (t .valid) .fill-apart) holds;
         over = λ d. absurd (false≢true d);
@@ -195,7 +203,7 @@ module _ (state : State) (memory shown new : List ℕ) (slot : ℕ) (on : runsOn
       record { lent = refl; holds = held-by run (at .runs) _; over = λ d. absurd (false≢true d) }
   effect-leaves (effects.hands tick out run moment at due) f =
       let held = held-by run (at .runs) in
-      polled-left tick out (handOut (fileOf state) run tick moment memory out (run .next))
+      polled-left run tick out (handOut (fileOf state) run tick moment memory out (run .next))
       (by-handed (fileOf state) run tick moment memory out (Polled (fileOf state) shown new slot)
       (λ step next. (held _, λ d. absurd (false≢true d)))
       (λ first stage frame row. (held _, λ d. absurd (false≢true d)))
@@ -221,6 +229,7 @@ line-put file memory slot stage row =
 -- what hands nothing out puts nothing out
 nothing-put : (given : Given) → handsOut given ≡ false → putsAny given ≡ false
 nothing-put (number n) e = refl
+nothing-put (summed n held) e = refl
 nothing-put (answered (answer.Refused n)) e = refl
 nothing-put (answered (answer.Wait ms)) e = refl
 nothing-put (answered (answer.Write l)) e = absurd (false≢true (sym e))

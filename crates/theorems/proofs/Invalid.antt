@@ -8,13 +8,13 @@ use Prim.Native.Nat.{ℕ}
 use lib.Dec.{eqb}
 use Rattle.lists.proofs.Rules.{broken}
 use Rattle.board.specs.State.{stateRules, stateValid, emptyState}
-use Rattle.board.specs.Calls.{regionUpload, bitmapUpload, fillBegin, fillFeed, fillFinish, fillCancel, starting, abandoning, polled, bitmapWrite}
-use Rattle.board.specs.History.{Call, uploadRegion, uploadBitmap, beginFill, feedFill, finishFill, cancelFill, start, poll, abandon, writeBitmap, numberGiven, isAccepted, givenBy, callOn}
+use Rattle.board.specs.Calls.{regionUpload, bitmapUpload, fillBegin, fillFeed, fillFinish, fillCancel, starting, abandoning, polled, bitmapWrite, slotSummary}
+use Rattle.board.specs.History.{Call, uploadRegion, uploadBitmap, beginFill, feedFill, finishFill, cancelFill, start, poll, abandon, writeBitmap, summary, numberGiven, isAccepted, givenBy, callOn}
 use Rattle.board.specs.declared.State.{State}
 
 pub invalid-refused : (state : State) (memory : List ℕ) (call : Call) → stateValid state ≡ false
     → numberGiven (givenBy (callOn state memory call .seen)) ≡ 13
-unfolding regionUpload bitmapUpload fillBegin fillFeed fillFinish fillCancel starting abandoning polled bitmapWrite
+unfolding regionUpload bitmapUpload fillBegin fillFeed fillFinish fillCancel starting abandoning polled bitmapWrite slotSummary
 invalid-refused state memory (uploadRegion slot x y width height payload) e = rw e
 invalid-refused state memory (uploadBitmap slot file) e = rw e
 invalid-refused state memory (beginFill slot) e = rw e
@@ -25,6 +25,7 @@ invalid-refused state memory (start slot tick) e = rw e
 invalid-refused state memory (poll tick out) e = rw e
 invalid-refused state memory abandon e = rw e
 invalid-refused state memory (writeBitmap slot out) e = rw e
+invalid-refused state memory (summary slot) e = rw e
 
 -- the empty state, which has no slots, earns 13 everywhere
 pub empty-refused : (memory : List ℕ) (call : Call) → numberGiven (givenBy (callOn emptyState memory call .seen)) ≡ 13

@@ -1,7 +1,7 @@
 -- What an accepted call leaves, and an accepted opening, is valid: it keeps every condition on a state.
 -- Assumes nothing.
 use mathlib.Core.Path.{_≡_, refl, sym, ap, _∙_}
-use mathlib.Core.Bool.{true, false}
+use mathlib.Core.Bool.{Bool, true, false}
 use mathlib.Core.List.{List, [], _∷_}
 use Prim.Native.Nat.{ℕ, _≤_}
 use native.Mathlib.Omega.{arith}
@@ -9,6 +9,7 @@ use borrow.Author.Tests.{eqb-false, ne-eqb}
 use lib.Dec.{eqb}
 use lib.ListN.{length, drop, replicate, length-replicate}
 use Rattle.lists.proofs.Lists.{length-overlay}
+use Rattle.lists.proofs.Rules.{by-test}
 use Rattle.panel.proofs.Panels.{size-of}
 use Rattle.settings.specs.Settings.{Step, panelOf, startSteps, stopSteps, settingsGood, longestFile, rowBytesIn, rowsIn, strideIn}
 use Rattle.settings.specs.Steps.{fromWrite}
@@ -17,6 +18,9 @@ use Rattle.fill.specs.Fills.{begunFill, emptyFill}
 use Rattle.fill.specs.Conditions.{fillValid}
 use Rattle.fill.specs.declared.Fed.{Fed}
 use Rattle.fill.proofs.Kept.{valid-begun}
+use Rattle.summary.specs.Conditions.{summariesGood}
+use Rattle.summary.specs.declared.Summary.{Summary}
+use Rattle.summary.proofs.Conditions.{good-opened, good-written, good-copied}
 use Rattle.run.specs.Clock.{passedAt}
 use Rattle.run.specs.Conditions.{runValid}
 use Rattle.run.specs.Due.{dueOf}
@@ -31,13 +35,15 @@ use Rattle.run.specs.declared.Phase.the-variants.{Idle, Abandoned, Running}
 use Rattle.run.proofs.Valid as runs
 use Rattle.run.proofs.Keeps.{begun-valid, waited-valid, start-written, stop-written, first-line, line-handed}
 use Rattle.poll.specs.HandOut.{Outcome, outcome, handStart, handStop, handOut}
-use Rattle.board.specs.State.{fileOf, sizesOf, isRunsSlot, phaseValid, stateValid, openedState}
-use Rattle.board.specs.Calls.{isFilling, opening}
+use Rattle.poll.specs.declared.Answer.{Answer}
+use Rattle.poll.specs.declared.Answer.the-variants as answer
+use Rattle.board.specs.State.{fileOf, sizesOf, withPhase, withFill, isRunsSlot, phaseValid, stateValid, openedState}
+use Rattle.board.specs.Calls.{isFilling, opening, countedIn, onSlot, summariesAfter}
 use Rattle.board.specs.History.{Call, isAccepted, givenBy, Called, callOn}
 use Rattle.board.specs.declared.State.{State}
 use Rattle.board.specs.declared.Reply.{Reply}
-use Rattle.board.proofs.States.{Tested, valid-state, state-valid, phase-kept, fill-kept, run-of}
-use Rattle.board.proofs.Effects.{Fills, filledTo, Effect, refuses, reads, draws, begins, fills, starts, abandons, waits, hands, At, polledTo, effect}
+use Rattle.board.proofs.States.{Tested, valid-state, state-valid, phase-kept, fill-kept, summaries-kept, run-of}
+use Rattle.board.proofs.Effects.{Fills, filledTo, Effect, refuses, reads, tells, draws, begins, fills, starts, abandons, waits, hands, At, polledTo, effect}
 use Rattle.board.proofs.Filled.{act-valid, act-slot, sized}
 use Rattle.board.proofs.Opening.{opened, opened-file}
 use Rattle.theorems.specs.Progress.{stateAfter}
@@ -75,9 +81,32 @@ module _ (state : State) (memory : List ℕ) (valid : stateValid state ≡ true)
   abbrev filled : ℕ
   filled = state .store .fill .slot
 
-  in-state : (tick : Tick) (out : List ℕ) (o : Outcome) → Leaves (fileOf state) (state .store .slots) o
-      → isRunsSlot (phaseIn o) filled ≡ false → stateValid (polledTo state memory tick out o .state) ≡ true
-  in-state tick out (outcome answer phase memory′ out′) e apart = phase-kept state phase valid e apart
+  -- the summaries that keep their conditions
+  abbrev Counts : List Summary → Type 0
+  Counts summaries = summariesGood (sizesOf state .bytes) (sizesOf state .rows) (state .store .slots) summaries ≡ true
+
+  counts : Counts (state .store .summaries)
+  counts = valid-state state valid .summaries-good
+
+  -- a fresh count of any slot
+  counted-good : (after : List ℕ) (slot : ℕ) → Counts (countedIn (sizesOf state) after slot (state .store .summaries))
+  counted-good after slot =
+      good-written (sizesOf state .bytes) (sizesOf state .rows) (state .store .slots) (state .store .summaries) counts slot _
+
+  -- what a poll of a run that shows a slot leaves
+  in-state : (run : Run) (tick : Tick) (out : List ℕ) (o : Outcome) → run .slot ≤ state .store .slots
+      → Leaves (fileOf state) (state .store .slots) o → isRunsSlot (phaseIn o) filled ≡ false
+      → stateValid (polledTo state memory run tick out o .state) ≡ true
+  in-state run tick out (outcome given phase memory′ out′) high e apart =
+      summaries-kept (withPhase state phase) _ (phase-kept state phase valid e apart) (after given)
+    where
+      after : (a : Answer) → Counts (summariesAfter a (run .slot) (state .store .summaries))
+      after (answer.Refused n) = counts
+      after (answer.Write n) = counts
+      after (answer.Line n) = counts
+      after (answer.Wait ms) = counts
+      after answer.Done =
+          good-copied (sizesOf state .bytes) (sizesOf state .rows) (state .store .slots) (state .store .summaries) counts (run .slot) high
 
   -- a run under way has another slot
   run-apart : (run : Run) → state .store .phase ≡ Running run → eqb (run .slot) filled ≡ false
@@ -93,25 +122,32 @@ module _ (state : State) (memory : List ℕ) (valid : stateValid state ≡ true)
           let low = runs.valid (fileOf state) (state .store .slots) run e .low in
           ne-eqb (run .slot) 0 (λ z. absurd (omega (arith, low, z)))
 
-  fills-valid : {call : Call} {act : List ℕ → Fed × List ℕ} → Fills (sizesOf state) (state .store .fill) call act
-      → Tested state (length memory) → isFilling (state .store .fill) ≡ true → stateValid (filledTo state memory call act .state) ≡ true
-  fills-valid kind t is =
+  fills-valid : {call : Call} {act : List ℕ → Fed × List ℕ} {writes : Fed → Bool} → Fills (sizesOf state) (state .store .fill) call act writes
+      → Tested state (length memory) → isFilling (state .store .fill) ≡ true
+      → stateValid (filledTo state memory call act writes .state) ≡ true
+  fills-valid {call} {act} {writes} kind t is =
       let v = valid-state state valid in
       let slot : (P : ℕ → Type 0) → P filled → P 0 → _ = act-slot kind (sized state memory t) (v .fill-good) _ in
+      let kept =
       fill-kept state _ valid (slot (λ k. k ≤ state .store .slots) (v .fill-high) (omega arith))
       (slot (λ k. isRunsSlot (state .store .phase) k ≡ false) (v .fill-apart) no-run-of-0)
-      (act-valid kind (sized state memory t) (v .fill-good) is _)
+      (act-valid kind (sized state memory t) (v .fill-good) is _) in
+      let d = onSlot (sizesOf state) memory filled act in
+      summaries-kept (withFill state (d .0 .fill)) _ kept
+      (by-test Counts (writes (d .0)) (countedIn (sizesOf state) (d .1) filled (state .store .summaries)) (state .store .summaries)
+      (λ w. counted-good (d .1) filled) (λ w. counts))
 
   -- a call on a valid state leaves a valid state, accepted or not
   pub leaves-valid : {call : Call} {called : Called} → Effect state memory call called → stateValid (called .state) ≡ true
   leaves-valid (refuses call given e) = valid
   leaves-valid (reads call out′ e t) = valid
-  leaves-valid (draws call slot picture e t may long) = valid
+  leaves-valid (tells slot held t) = valid
+  leaves-valid (draws call slot picture e t may long) = summaries-kept state _ valid (counted-good _ slot)
   leaves-valid (begins slot t may) =
       let z = sized state memory t in
       fill-kept state (begunFill slot) valid (may .upload .takes .high) (may .upload .not-runs)
       (valid-begun (sizesOf state .bytes) (sizesOf state .rows) (sizesOf state .stride) (z .some) (z .narrow) (z .within) (z .small) (z .low) slot)
-  leaves-valid (fills call act kind t is) = fills-valid kind t is
+  leaves-valid (fills call act writes kind t is) = fills-valid kind t is
   leaves-valid (starts slot tick t may) =
       phase-kept state (Running (begun slot tick)) valid
       (begun-valid (fileOf state) (state .store .slots) slot tick (may .takes .low) (may .takes .high))
@@ -124,7 +160,8 @@ module _ (state : State) (memory : List ℕ) (valid : stateValid state ≡ true)
       (waited-valid (fileOf state) (state .store .slots) run (run-of state run valid (at .runs)) tick moment later)
       (run-apart run (at .runs))
   leaves-valid (hands tick out run moment at due) =
-      in-state tick out (handOut (fileOf state) run tick moment memory out (run .next))
+      in-state run tick out (handOut (fileOf state) run tick moment memory out (run .next))
+      (runs.valid (fileOf state) (state .store .slots) run (run-of state run valid (at .runs)) .high)
       (handed-leaves (fileOf state) (state .store .slots) run tick memory out (valid-state state valid .good)
       (run-of state run valid (at .runs)) moment due (run .next) refl)
       (by-handed (fileOf state) run tick moment memory out (λ o. isRunsSlot (phaseIn o) filled ≡ false)
@@ -171,4 +208,5 @@ opened-valid file n memory accepted =
       fill-high = omega arith;
       fill-apart = refl;
       fill-good = rw (opened-file file n) (empty-valid file (o .good));
+      summaries-good = good-opened _ _ n (o .few);
     })

@@ -7,6 +7,8 @@ pub mod Kept
 pub mod RoundTrips
 -- A bitmap file that comes in chunks, whatever other calls stand between.
 pub mod Fills
+-- Every summary is a fresh count.
+pub mod Summaries
 -- Polls hand out exactly the things of a run, in order, and come to its end.
 pub mod Things
 pub mod Order

@@ -11,6 +11,7 @@ use lib.ListN.{length}
 use Rattle.lists.specs.Lists.{overlay}
 use Rattle.lists.proofs.Lists.{take-overlay}
 use Rattle.lists.proofs.Rules.{and-left, and-right, by-cases}
+use Rattle.summary.specs.declared.Summary.{Summary}
 use Rattle.run.specs.Runs.{begun}
 use Rattle.run.specs.declared.Tick.{Tick}
 use Rattle.run.specs.declared.Passed.{Passed}
@@ -22,9 +23,9 @@ use Rattle.poll.specs.Answers.{putOut}
 use Rattle.poll.specs.HandOut.{Outcome, outcome, stepBytes, lineBytes, handOut}
 use Rattle.poll.specs.declared.Answer.{Answer}
 use Rattle.poll.specs.declared.Answer.the-variants as answer
-use Rattle.board.specs.State.{fileOf, withPhase, stateValid}
+use Rattle.board.specs.State.{fileOf, withPhase, withSummaries, stateValid}
 use Rattle.board.specs.Calls.{reply, inState, startCases, starting}
-use Rattle.board.specs.History.{Call, start, poll, Given, number, answered, isAccepted, event, outOf, Called, ofPoll, callOn, eventsOf}
+use Rattle.board.specs.History.{Call, start, poll, summary, Given, number, answered, summed, isAccepted, event, outOf, Called, ofPoll, callOn, eventsOf}
 use Rattle.board.specs.declared.State.{State}
 use Rattle.board.specs.declared.Reply.{Reply}
 use Rattle.board.proofs.States.{valid-state, run-of}
@@ -51,6 +52,7 @@ pub record Onward (file : List ℕ) (slot : ℕ) (toCome : List Thing) (called :
 -- a refusal hands nothing out
 pub refused-hands : (given : Given) → isAccepted given ≡ false → handsOut given ≡ false
 refused-hands (number n) e = refl
+refused-hands (summed n held) e = refl
 refused-hands (answered (answer.Refused n)) e = refl
 refused-hands (answered (answer.Write n)) e = absurd (false≢true (sym e))
 refused-hands (answered (answer.Line n)) e = absurd (false≢true (sym e))
@@ -74,7 +76,7 @@ module _ (file : List ℕ) (slot : ℕ) (tick : Tick) (memory out : List ℕ) wh
       rw (first .first, first .answers, first .puts, put-thing file memory slot (first .thing) out) (hands (first .thing))
 
   goes-outcome : (state : State) (toCome : List Thing) (o : Outcome) → InOrder file memory out slot toCome o
-      → Goes file slot toCome (ofPoll (poll tick out) memory (inState state o) .seen) (thingsIn file (phaseIn o))
+      → Goes file slot toCome (ofPoll (poll tick out) memory (inState state slot o) .seen) (thingsIn file (phaseIn o))
   goes-outcome state toCome (outcome (answer.Refused n) phase memory′ out′) e = rw e (nothing refl)
   goes-outcome state toCome (outcome (answer.Wait ms) phase memory′ out′) e = rw e (nothing refl)
   goes-outcome state toCome (outcome (answer.Write l) phase memory′ out′) first = goes-first toCome _ phase out′ first
@@ -93,17 +95,20 @@ module _ (state : State) (memory : List ℕ) (slot : ℕ) (valid : stateValid st
   abbrev Goes-on : Called → Type 0
   Goes-on = Onward (fileOf state) slot (thingsIn (fileOf state) (state .store .phase))
 
+  abbrev counts : List Summary
+  counts = state .store .summaries
+
   -- nothing goes out, and the phase stays
-  stays-on : (call : Call) (given : Given) → handsOut given ≡ false → (memory′ out′ : List ℕ)
-      → Goes-on (leaving call memory given state memory′ out′)
-  stays-on call given e memory′ out′ = record { file-kept = refl; slot-kept = on; goes = nothing e }
+  stays-on : (call : Call) (given : Given) → handsOut given ≡ false → (summaries : List Summary) (memory′ out′ : List ℕ)
+      → Goes-on (leaving call memory given (withSummaries state summaries) memory′ out′)
+  stays-on call given e summaries memory′ out′ = record { file-kept = refl; slot-kept = on; goes = nothing e }
 
   module _ (tick : Tick) (out : List ℕ) (run : Run) (at : state .store .phase ≡ Running run) where
     on-run : eqb (run .slot) slot ≡ true
     on-run = rw at at on
 
     in-state : (o : Outcome) → runsOn (phaseIn o) slot ≡ true → InOrder (fileOf state) memory out slot (thingsIn (fileOf state) (state .store .phase)) o
-        → Goes-on (polledTo state memory tick out o)
+        → Goes-on (polledTo state memory run tick out o)
     in-state (outcome given phase memory′ out′) kept ordered =
         record {
           file-kept = refl;
@@ -111,7 +116,7 @@ module _ (state : State) (memory : List ℕ) (slot : ℕ) (valid : stateValid st
           goes = goes-outcome (fileOf state) slot tick memory out state _ (outcome given phase memory′ out′) ordered;
         }
 
-    handed : (moment : Passed) → Goes-on (polledTo state memory tick out (handOut (fileOf state) run tick moment memory out (run .next)))
+    handed : (moment : Passed) → Goes-on (polledTo state memory run tick out (handOut (fileOf state) run tick moment memory out (run .next)))
     handed moment =
         let file = fileOf state in
         let o = handOut file run tick moment memory out (run .next) in
@@ -120,11 +125,12 @@ module _ (state : State) (memory : List ℕ) (slot : ℕ) (valid : stateValid st
         in-state o (hands-on file slot tick memory out run on-run moment (run .next)) ordered
 
   effect-on : {call : Call} {called : Called} → Effect state memory call called → turns (called .seen) ≡ false → Goes-on called
-  effect-on (effects.refuses call given e) f = stays-on call given (refused-hands given e) memory (outOf call)
-  effect-on (effects.reads call out′ e t) f = stays-on call (number 0) refl memory out′
-  effect-on (effects.draws call t picture e u may long) f = stays-on call (number 0) refl _ (outOf call)
+  effect-on (effects.refuses call given e) f = stays-on call given (refused-hands given e) counts memory (outOf call)
+  effect-on (effects.reads call out′ e t) f = stays-on call (number 0) refl counts memory out′
+  effect-on (effects.tells t held u) f = stays-on (summary t) (summed 0 held) refl counts memory []
+  effect-on (effects.draws call t picture e u may long) f = stays-on call (number 0) refl _ _ (outOf call)
   effect-on (effects.begins t u may) f = record { file-kept = refl; slot-kept = on; goes = nothing refl }
-  effect-on (effects.fills call act kind t is) f = record { file-kept = refl; slot-kept = on; goes = nothing refl }
+  effect-on (effects.fills call act writes kind t is) f = record { file-kept = refl; slot-kept = on; goes = nothing refl }
   effect-on (effects.starts t tick u may) f = absurd (false≢true (sym f))
   effect-on (effects.abandons t is) f = absurd (false≢true (sym f))
   effect-on (effects.waits tick out run moment at before) f =

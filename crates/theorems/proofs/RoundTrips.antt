@@ -6,7 +6,7 @@ use mathlib.Core.Path.{_≡_, refl, sym, ap, _∙_, subst}
 use mathlib.Core.Bool.{true, false, not}
 use mathlib.Core.List.{List, _++_}
 use Prim.Native.Nat.{ℕ, _+_, _*_, _≤_, _<_}
-use borrow.Author.Tests.{not-false, eqb-false}
+use borrow.Author.Tests.{not-false, eqb-false, eq-eqb}
 use lib.ListN.{length, take}
 use Rattle.lists.specs.Lists.{overlay}
 use Rattle.lists.proofs.Lists.{take-overlay}
@@ -23,13 +23,15 @@ use Rattle.picture.proofs.Slots.{Rows, slot-fits, rows-slot, with-own-picture, 
 use Rattle.bitmap.specs.Header.{fileLength}
 use Rattle.bitmap.specs.Bitmap.{bitmapGood, readPicture, writtenFile, normalForm}
 use Rattle.bitmap.proofs.RoundTrip.{length-file, rows-read, read-written, write-read, read-normal, good-written}
-use Rattle.board.specs.State.{fileOf, sizesOf, isRunsSlot, storeBytes, storeCases}
-use Rattle.board.specs.Calls.{isFilled, reply, uploadOwn, uploadCases, bitmapCases, bitmapDrawn, bitmapUpload, writeOwn, writeCases, bitmapWritten, bitmapWrite}
+use Rattle.board.specs.State.{fileOf, sizesOf, isRunsSlot, stateValid, storeBytes, storeCases}
+use Rattle.board.specs.Calls.{isFilled, reply, counted, uploadOwn, uploadCases, bitmapCases, bitmapDrawn, drawnTo, bitmapUpload, writeOwn, writeCases, bitmapWritten, bitmapWrite}
+use Rattle.board.specs.History.{uploadBitmap}
 use Rattle.board.specs.declared.State.{State}
 use Rattle.board.specs.declared.Reply.{Reply}
 use Rattle.theorems.specs.Copies.{fileLeft, Carried, FileCarries}
 use Rattle.board.proofs.States.{Tested, tested, store-free, valid-state}
 use Rattle.board.proofs.Tests.{Uploadable, uploadable, upload-free, Writable, writable, write-free}
+use Rattle.theorems.proofs.Kept.{valid-kept}
 
 module _ (state : State) where
   abbrev b : ℕ
@@ -53,22 +55,22 @@ module _ (state : State) where
         (none-both (store-free state (length memory) t) (write-free (state .store) (sizesOf state) slot (length out) may))
 
     pub uploads : (file : List ℕ) → Tested state (length memory) → Uploadable (state .store) slot → bitmapGood b h s file ≡ true
-        → bitmapUpload state memory slot file ≡ (reply 0 state, bitmapDrawn (sizesOf state) memory slot file)
+        → bitmapUpload state memory slot file ≡ drawnTo state slot (bitmapDrawn (sizesOf state) memory slot file)
     unfolding bitmapUpload
     uploads file t may good =
         taken (uploadCases state (length memory) slot ++ bitmapCases (sizesOf state) file) (λ number. (reply number state, memory))
-        (reply 0 state, bitmapDrawn (sizesOf state) memory slot file)
+        (drawnTo state slot (bitmapDrawn (sizesOf state) memory slot file))
         (none-both (none-both (store-free state (length memory) t) (upload-free (state .store) slot may)) (past (ap not good) none))
 
     -- what holds of an accepted bitmap upload
     accepted-upload : (file : List ℕ) (P : Reply × List ℕ → Type 0)
-        → (Tested state (length memory) → Uploadable (state .store) slot → P (reply 0 state, bitmapDrawn (sizesOf state) memory slot file))
+        → (Tested state (length memory) → Uploadable (state .store) slot → P (drawnTo state slot (bitmapDrawn (sizesOf state) memory slot file)))
         → bitmapUpload state memory slot file .0 .number ≡ 0 → P (bitmapUpload state memory slot file)
     unfolding bitmapUpload
     accepted-upload file P then =
         by-cases (λ (r : Reply × List ℕ). r .0 .number ≡ 0 → P r)
         (uploadCases state (length memory) slot ++ bitmapCases (sizesOf state) file) (λ number. (reply number state, memory))
-        (reply 0 state, bitmapDrawn (sizesOf state) memory slot file) refl
+        (drawnTo state slot (bitmapDrawn (sizesOf state) memory slot file)) refl
         (λ number e z. absurd (eqb-false number 0 e z))
         (λ free z.
         let upload = none-parts (uploadCases state (length memory) slot) (bitmapCases (sizesOf state) file) free .0 in
@@ -84,41 +86,16 @@ module _ (state : State) where
   -- ---- the round trips
 
   module _ (memory : List ℕ) (slot : ℕ) where
-    -- an accepted bitmap upload, and then the writer: the file's normal form
-    pub upload-write : (file out : List ℕ) → Bytes file → bitmapUpload state memory slot file .0 .number ≡ 0
-        → fileLength (rowsIn (fileOf state)) (strideIn (fileOf state)) ≤ length out
-        → bitmapWrite (bitmapUpload state memory slot file .0 .state) (bitmapUpload state memory slot file .1) slot out
-        ≡ (reply 0 state, overlay (normalForm (rowBytesIn (fileOf state)) (rowsIn (fileOf state)) (strideIn (fileOf state)) file) out)
-    upload-write file out bytes accepted room =
-        accepted-upload memory slot file
-        (λ r. bitmapWrite (r .0 .state) (r .1) slot out ≡ (reply 0 state, overlay (normalForm b h s file) out)) stored accepted
-      where
-        picture : List ℕ
-        picture = readPicture b h s file
-
-        after : List ℕ
-        after = withPicture b h memory slot picture
-
-        stored : Tested state (length memory) → Uploadable (state .store) slot
-            → bitmapWrite state after slot out ≡ (reply 0 state, overlay (normalForm b h s file) out)
-        stored t may =
-            let z = size memory slot t in
-            let inside = fits memory slot t (may .takes .high) in
-            let rows : Rows b h picture = rows-read b h s file bytes in
-            let same : length after ≡ length memory = length-with-picture b h memory slot inside (z .some) picture rows in
-            writes after slot out (record { valid = t .valid; exact = same ∙ t .exact }) (record { high = may .takes .high; room = room })
-            ∙ rw (picture-same b h memory slot inside (z .some) picture rows, write-read b h s (z .some) (z .within) file)
-
-    -- what the writer made of a slot that takes uploads, uploaded again to that slot: the memory stays
+    -- what the writer made of a slot that takes uploads, uploaded again to that slot: the memory stays, and a fresh count of it is kept
     pub write-upload : (out : List ℕ) → Bytes memory → bitmapWrite state memory slot out .0 .number ≡ 0
         → 1 ≤ slot → isRunsSlot (state .store .phase) slot ≡ false → isFilled (state .store .fill) slot ≡ false
         → bitmapUpload state memory slot
         (take (fileLength (rowsIn (fileOf state)) (strideIn (fileOf state))) (bitmapWrite state memory slot out .1))
-        ≡ (reply 0 state, memory)
+        ≡ (reply 0 (counted (sizesOf state) state memory slot), memory)
     unfolding bitmapWrite
     write-upload out bytes accepted low free unfilled =
         by-cases
-        (λ (r : Reply × List ℕ). r .0 .number ≡ 0 → bitmapUpload state memory slot (take (fileLength h s) (r .1)) ≡ (reply 0 state, memory))
+        (λ (r : Reply × List ℕ). r .0 .number ≡ 0 → bitmapUpload state memory slot (take (fileLength h s) (r .1)) ≡ drawnTo state slot memory)
         (writeCases state (length memory) slot (length out)) (λ number. (reply number state, out))
         (reply 0 state, bitmapWritten (sizesOf state) memory slot out) refl
         (λ number e z. absurd (eqb-false number 0 e z)) written accepted
@@ -130,7 +107,7 @@ module _ (state : State) where
         file = writtenFile b h s picture
 
         written : None (writeCases state (length memory) slot (length out)) → _≡_ {A = ℕ} 0 0
-            → bitmapUpload state memory slot (take (fileLength h s) (overlay file out)) ≡ (reply 0 state, memory)
+            → bitmapUpload state memory slot (take (fileLength h s) (overlay file out)) ≡ drawnTo state slot memory
         written all y =
             let parts = none-parts (storeCases state (length memory)) (writeOwn (state .store) (sizesOf state) slot (length out)) all in
             let t = tested state (length memory) (parts .0) in
@@ -156,6 +133,43 @@ module _ (state : State) where
         let good : bitmapGood b h s (normalForm b h s file) ≡ true =
         rw (← form) (good-written b h s (z .narrow) (z .low) (z .small) (readPicture b h s file)) in
         uploads memory slot (normalForm b h s file) t may good ∙ rw (read-normal b h s (z .some) (z .within) file))
+
+module _ (state : State) (memory : List ℕ) (slot : ℕ) where
+  -- an accepted bitmap upload, and then the writer: the file's normal form
+  pub upload-write : (file out : List ℕ) → Bytes file → bitmapUpload state memory slot file .0 .number ≡ 0
+      → fileLength (rowsIn (fileOf state)) (strideIn (fileOf state)) ≤ length out
+      → bitmapWrite (bitmapUpload state memory slot file .0 .state) (bitmapUpload state memory slot file .1) slot out
+      ≡ (
+        reply 0 (bitmapUpload state memory slot file .0 .state),
+        overlay (normalForm (rowBytesIn (fileOf state)) (rowsIn (fileOf state)) (strideIn (fileOf state)) file) out,
+      )
+  upload-write file out bytes accepted room =
+      accepted-upload state memory slot file
+      (λ r.
+      stateValid (r .0 .state) ≡ true
+      → bitmapWrite (r .0 .state) (r .1) slot out ≡ (reply 0 (r .0 .state), overlay (normalForm (b state) (h state) (s state) file) out))
+      stored accepted (valid-kept state memory (uploadBitmap slot file) (eq-eqb _ 0 accepted))
+    where
+      picture : List ℕ
+      picture = readPicture (b state) (h state) (s state) file
+
+      after : List ℕ
+      after = withPicture (b state) (h state) memory slot picture
+
+      stored : Tested state (length memory) → Uploadable (state .store) slot → stateValid (counted (sizesOf state) state after slot) ≡ true
+          → bitmapWrite (counted (sizesOf state) state after slot) after slot out
+          ≡ (reply 0 (counted (sizesOf state) state after slot), overlay (normalForm (b state) (h state) (s state) file) out)
+      stored t may valid =
+          let z = size state memory slot t in
+          let inside = fits state memory slot t (may .takes .high) in
+          let rows : Rows (b state) (h state) picture = rows-read (b state) (h state) (s state) file bytes in
+          let same : length after ≡ length memory = length-with-picture (b state) (h state) memory slot inside (z .some) picture rows in
+          writes (counted (sizesOf state) state after slot) after slot out (record { valid = valid; exact = same ∙ t .exact })
+          (record { high = may .takes .high; room = room })
+          ∙ ap
+          (λ (file : List ℕ). (reply 0 (counted (sizesOf state) state after slot), overlay file out))
+          (ap (writtenFile (b state) (h state) (s state)) (picture-same (b state) (h state) memory slot inside (z .some) picture rows)
+          ∙ write-read (b state) (h state) (s state) (z .some) (z .within) file)
 
 -- ---- a written file, uploaded to a slot of any store of the panel
 
@@ -199,7 +213,7 @@ module _ (memory : List ℕ) (source : ℕ) (out : List ℕ) where
       let inside = fits other before slot t (may .takes .high) in
       let left = uploads other before slot (fileOn (sizesOf other)) t may (file .good) in
       record {
-        accepted = ap (λ (r : Reply × List ℕ). r .0) left;
+        accepted = rw left;
         holds = rw (left, file .read) (picture-same (b other) (h other) before slot inside (z .some) (pictureOn (sizesOf other)) (file .rows));
         others =
             λ u d.

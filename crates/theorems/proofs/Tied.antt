@@ -15,13 +15,14 @@ use Rattle.settings.specs.Settings.{panelOf, rowBytesIn, rowsIn, strideIn}
 use Rattle.picture.specs.Slots.{slotPicture}
 use Rattle.bitmap.specs.Header.{fileLength}
 use Rattle.bitmap.specs.Bitmap.{normalForm}
+use Rattle.summary.specs.Summaries.{summaryOf}
 use Rattle.board.specs.State.{fileOf, sizesOf, stateValid, emptyState, openedState}
-use Rattle.board.specs.Calls.{reply, openCases, opening, uploadCases, fillBegin, starting, bitmapUpload, bitmapWrite}
+use Rattle.board.specs.Calls.{reply, openCases, opening, uploadCases, fillBegin, starting, bitmapUpload, bitmapWrite, summarised, slotSummary}
 use Rattle.board.specs.History.{Call, feedFill, finishFill, cancelFill, Event, numberGiven, isAccepted, givenBy, outOf, Called, callOn, eventsOf, memoryAfter}
 use Rattle.board.specs.Chains.{Parts, Chain, finished, more}
 use Rattle.board.specs.declared.State.{State}
 use Rattle.board.specs.declared.Reply.{Reply}
-use Rattle.board.proofs.Tied.{Open, BeginFill, Start, UploadBitmap, WriteBitmap, beginParts, begunSlot, startParts, bitmapParts, writeParts, startedSlot, startedTick, uploadedSlot, uploadedFile, writtenSlot, openedFile, openedSlots, openedMemory, lentMemory, Step, kept, callsOf, listed}
+use Rattle.board.proofs.Tied.{Open, BeginFill, Start, UploadBitmap, WriteBitmap, beginParts, begunSlot, startParts, bitmapParts, writeParts, startedSlot, startedTick, uploadedSlot, uploadedFile, writtenSlot, openedFile, openedSlots, openedMemory, lentMemory, Step, kept, callsOf, listed, SummaryCall, summaryState, summarySlot}
 use Rattle.theorems.specs.Order.{Thing, thingsOfRun, thingsIn}
 use Rattle.theorems.specs.Progress.{AllGo, noTurns, stateAfter, handOuts}
 use Rattle.theorems.specs.Timing.{noRun, aRun, watchAtStart, AllTimely}
@@ -31,6 +32,7 @@ use Rattle.bitmap_prefix.specs.Meaning.{AreBytes}
 use Rattle.theorems.specs.Copies.{fileLeft, Carried}
 use Rattle.theorems.specs.Fills as spec
 use Rattle.theorems.specs.Fills.{sentBy, allKeepFilling, calledAfter, SlotAfter, whitePicture, begins, good, pictureIn, next, Earns4, Begun}
+use Rattle.theorems.specs.Summaries.{Summarises}
 use Rattle.theorems.specs.Refusals.{Unchanged, breaksFill, FillBroken}
 use Rattle.theorems.proofs.Refusals.{refused-same, fill-broken}
 use Rattle.theorems.proofs.Invalid.{invalid-refused}
@@ -40,6 +42,7 @@ use Rattle.theorems.proofs.Ends.{all-done}
 use Rattle.theorems.proofs.Timing.{history-on-time, run-keeps-time, state-on-time}
 use Rattle.theorems.proofs.Frames.{equal-frames}
 use Rattle.theorems.proofs.Fills.{state-append, memory-append, fills-hold, bad-files-earn-4, fills-as-whole}
+use Rattle.theorems.proofs.Summaries.{summaries-hold}
 use Rattle.theorems.proofs.RoundTrips.{upload-write, upload-normal, file-carries}
 
 -- ---- one call
@@ -243,15 +246,15 @@ pub upload-write-tied : (c : UploadBitmap) (w : WriteBitmap) → AreBytes (uploa
     → writeParts w .state ≡ c .result .state → writeParts w .memory ≡ bitmapParts c .left .memory → writtenSlot w ≡ uploadedSlot c
     → fileLength (rowsIn (fileOf (bitmapParts c .state))) (strideIn (fileOf (bitmapParts c .state))) ≤ length (outOf (writeParts w .call))
     → _≡_ {A = Reply × List ℕ} (w .result, writeParts w .left .out)
-    (reply 0 (bitmapParts c .state), overlay (normalOf c) (outOf (writeParts w .call)))
+    (reply 0 (c .result .state), overlay (normalOf c) (outOf (writeParts w .call)))
 upload-write-tied c w bytes accepted same-state same-memory same-slot room =
     let s : State = bitmapParts c .state in
     let m : List ℕ = bitmapParts c .memory in
     let out : List ℕ = outOf (writeParts w .call) in
-    let form : Reply × List ℕ = (reply 0 s, overlay (normalOf c) out) in
+    let form : Reply → Reply × List ℕ = λ r. (reply 0 (r .state), overlay (normalOf c) out) in
     let trip = upload-write s m (uploadedSlot c) (uploadedFile c) out bytes (accepted-upload c accepted) room in
-    let after : bitmapWrite (c .result .state) (bitmapParts c .left .memory) (uploadedSlot c) out ≡ form =
-    subst (λ (r : Reply × List ℕ). bitmapWrite (r .0 .state) (r .1) (uploadedSlot c) out ≡ form) (sym (c .promised)) trip in
+    let after : bitmapWrite (c .result .state) (bitmapParts c .left .memory) (uploadedSlot c) out ≡ form (c .result) =
+    subst (λ (r : Reply × List ℕ). bitmapWrite (r .0 .state) (r .1) (uploadedSlot c) out ≡ form (r .0)) (sym (c .promised)) trip in
     w .promised ∙ write-same out same-state same-memory same-slot ∙ after
 
 -- and its normal form does the same as the file
@@ -418,3 +421,32 @@ fills-as-whole-tied c accepted memory-bytes chain chunks are sent-bytes {p} step
           ∙ whole .1
           ∙ ap (λ (r : Reply × List ℕ). r .1) upload,
     )
+
+-- ---- summaries
+
+-- since an accepted opening every summary is a fresh count, after every chain of calls
+module _ (o : Open) (accepted : o .result .number ≡ 0) {events : List Event} {u : List ℕ}
+    (chain : Chain Step (o .result .state) (openedMemory o) events u) where
+  pub summaries-tied : Summarises (rowBytesIn (openedFile o)) (rowsIn (openedFile o)) (openedSlots o) (endOf chain) u
+  summaries-tied =
+      let file = openedFile o in
+      let calls : List Call = callsOf chain in
+      let Holds : State → List ℕ → Type 0 = Summarises (rowBytesIn file) (rowsIn file) (openedSlots o) in
+      let whole =
+      summaries-hold file (openedSlots o) (lentMemory o) (ap (λ (r : Reply × List ℕ). r .0 .number) (sym (o .promised)) ∙ accepted) calls in
+      let since =
+      subst (λ (r : Reply × List ℕ). Holds (stateAfter (r .0 .state) (r .1) calls) (memoryAfter (r .0 .state) (r .1) calls)) (sym (o .promised)) whole in
+      subst (Holds (endOf chain)) (listed chain .left) (subst (λ (s : State). Holds s (memoryAfter (o .result .state) (openedMemory o) calls)) (sym (ended-so chain)) since)
+
+  -- and a call for it gave that
+  pub summary-tied : (c : SummaryCall) → summaryState c ≡ endOf chain → summarySlot c ≤ openedSlots o
+      → c .result
+      ≡ summarised 0
+      (summaryOf (rowBytesIn (openedFile o)) (rowsIn (openedFile o))
+      (slotPicture (rowBytesIn (openedFile o)) (rowsIn (openedFile o)) u (summarySlot c)))
+      (summaryState c)
+  summary-tied c same high =
+      let file = openedFile o in
+      let count = summaryOf (rowBytesIn file) (rowsIn file) (slotPicture (rowBytesIn file) (rowsIn file) u (summarySlot c)) in
+      c .promised
+      ∙ subst (λ (s : State). slotSummary s (summarySlot c) ≡ summarised 0 count s) (sym same) (summaries-tied .told (summarySlot c) high)

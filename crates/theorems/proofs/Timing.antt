@@ -9,6 +9,7 @@ use Prim.Native.Nat.{ℕ, _-_, _≤_, _<_}
 use borrow.Author.Tests.{eq-eqb, eqb-false}
 use lib.ListN.{length}
 use Rattle.lists.proofs.Rules.{by-cases}
+use Rattle.summary.specs.declared.Summary.{Summary}
 use Rattle.run.specs.Clock.{passedAt}
 use Rattle.run.specs.Due.{dueOf}
 use Rattle.run.specs.Runs.{begun, waited}
@@ -18,9 +19,9 @@ use Rattle.run.specs.declared.Run.{Run}
 use Rattle.run.specs.declared.Phase.the-variants.{Running}
 use Rattle.poll.specs.HandOut.{Outcome, outcome, handOut}
 use Rattle.poll.specs.declared.Answer.the-variants as answer
-use Rattle.board.specs.State.{fileOf, withPhase, stateValid, openedState}
+use Rattle.board.specs.State.{fileOf, withPhase, withSummaries, stateValid, openedState}
 use Rattle.board.specs.Calls.{reply, startCases, starting}
-use Rattle.board.specs.History.{Call, start, Part, starts, polls, abandons, noPart, partOf, Given, number, answered, isAccepted, Called, callOn, eventsOf}
+use Rattle.board.specs.History.{Call, start, summary, Part, starts, polls, abandons, noPart, partOf, Given, number, answered, summed, isAccepted, Called, callOn, eventsOf}
 use Rattle.board.specs.declared.State.{State}
 use Rattle.board.specs.declared.Reply.{Reply}
 use Rattle.board.proofs.States.{valid-state, run-of}
@@ -28,6 +29,7 @@ use Rattle.board.proofs.Effects as effects
 use Rattle.board.proofs.Effects.{Effect, At, leaving, polledTo, effect}
 use Rattle.board.proofs.Filled.{fills-apart}
 use Rattle.board.proofs.Opening.{opened, opened-file}
+use Rattle.theorems.specs.Progress.{handsOut}
 use Rattle.theorems.specs.Timing.{Observed, noRun, aRun, watchAtStart, observedBy, observedAfter, TimelyBy, Timely, AllTimely, none, more, RunOnTime, HistoryOnTime}
 use Rattle.theorems.specs.Past.{StateOnTime, watchOf, observedIn}
 use Rattle.theorems.proofs.Kept.{stays-valid, valid-kept, opened-valid}
@@ -48,6 +50,7 @@ refused-timely : (file : List ℕ) (observed : Observed) (part : Part) (memory :
 refused-timely file observed (starts slot tick) memory given e = refused-hands given e
 refused-timely file noRun (polls tick) memory given e = e
 refused-timely file (aRun slot watch) (polls tick) memory (number n) e = refl
+refused-timely file (aRun slot watch) (polls tick) memory (summed n held) e = refl
 refused-timely file (aRun slot watch) (polls tick) memory (answered given) e = λ z. absurd (eqb-false _ 0 e z)
 refused-timely file observed abandons memory given e = refused-hands given e
 refused-timely file observed noPart memory given e = refused-hands given e
@@ -57,6 +60,7 @@ refused-follows : (file : List ℕ) (observed : Observed) (part : Part) (given :
 refused-follows file observed (starts slot tick) given e = rw e
 refused-follows file noRun (polls tick) given e = refl
 refused-follows file (aRun slot watch) (polls tick) (number n) e = refl
+refused-follows file (aRun slot watch) (polls tick) (summed n held) e = refl
 refused-follows file (aRun slot watch) (polls tick) (answered (answer.Refused n)) e = refl
 refused-follows file (aRun slot watch) (polls tick) (answered (answer.Write l)) e = absurd (eqb-false 0 0 e refl)
 refused-follows file (aRun slot watch) (polls tick) (answered (answer.Line l)) e = absurd (eqb-false 0 0 e refl)
@@ -70,14 +74,15 @@ module _ (state : State) (memory : List ℕ) (valid : stateValid state ≡ true)
   On = InStep (fileOf state) (observedIn (fileOf state) (state .store .phase))
 
   -- a call that has no part in a run
-  apart : (call : Call) → partOf call ≡ noPart → (memory′ out′ : List ℕ) → On (leaving call memory (number 0) state memory′ out′)
-  apart call e memory′ out′ =
+  apart : (call : Call) (given : Given) → partOf call ≡ noPart → handsOut given ≡ false → (summaries : List Summary) (memory′ out′ : List ℕ)
+      → On (leaving call memory given (withSummaries state summaries) memory′ out′)
+  apart call given e quiet summaries memory′ out′ =
       let observed = observedIn (fileOf state) (state .store .phase) in
-      record { file-kept = refl; timely = rw e refl; follows = rw e refl }
+      record { file-kept = refl; timely = rw e quiet; follows = rw e refl }
 
   -- a poll of the run, at its moment
   of-run : (tick : Tick) (out : List ℕ) (run : Run) → state .store .phase ≡ Running run → (o : Outcome)
-      → KeepsTime (fileOf state) (run .slot) (watchOf (fileOf state) run) tick memory o → On (polledTo state memory tick out o)
+      → KeepsTime (fileOf state) (run .slot) (watchOf (fileOf state) run) tick memory o → On (polledTo state memory run tick out o)
   of-run tick out run at (outcome given phase memory′ out′) keeps =
       rw at (record { file-kept = refl; timely = keeps .0; follows = keeps .1 })
 
@@ -99,10 +104,11 @@ module _ (state : State) (memory : List ℕ) (valid : stateValid state ≡ true)
         timely = refused-timely (fileOf state) observed (partOf call) memory given e;
         follows = refused-follows (fileOf state) observed (partOf call) given e;
       }
-  effect-on (effects.reads call out′ e t) = apart call e memory out′
-  effect-on (effects.draws call slot picture e t may long) = apart call e _ _
+  effect-on (effects.reads call out′ e t) = apart call (number 0) e refl (state .store .summaries) memory out′
+  effect-on (effects.tells slot held t) = apart (summary slot) (summed 0 held) refl refl (state .store .summaries) memory []
+  effect-on (effects.draws call slot picture e t may long) = apart call (number 0) e refl _ _ _
   effect-on (effects.begins slot t may) = record { file-kept = refl; timely = refl; follows = refl }
-  effect-on (effects.fills call act kind t is) =
+  effect-on (effects.fills call act writes kind t is) =
       record { file-kept = refl; timely = rw (fills-apart kind) refl; follows = rw (fills-apart kind) refl }
   effect-on (effects.starts slot tick t may) = record { file-kept = refl; timely = refl; follows = refl }
   effect-on (effects.abandons t is) = record { file-kept = refl; timely = refl; follows = refl }

@@ -26,6 +26,7 @@ use Rattle.run.specs.Clock.{stepFrom, clockRefused}
 use Rattle.run.specs.Due.{dueOf}
 use Rattle.bitmap_prefix.specs.Begins.{headerBegins}
 use Rattle.fill.specs.Conditions.{fillValid}
+use Rattle.summary.specs.Conditions.{summaryGood, summariesGood}
 use Rattle.run.specs.Conditions.{runValid}
 use Rattle.run.specs.declared.Tick.{Tick}
 use Rattle.poll.specs.Poll.{pollAt, pollRun}
@@ -100,7 +101,7 @@ pub record WorkedByHand : Type 0 where
   pub step-back : pollNumber 5 (5 + 2147483648) ≡ 10
 
 pub worked-by-hand : WorkedByHand
-unfolding line evenByte oddByte scanByte codeBy rowDot handedLine sumOf pushed dotBits scanBits pushOf regionUpload stateValid settingsGood stepOf writeOf waitOf requiredData dataLength channelData gateSourceLevel withRegion withPicture withBytes slotPicture slotBytes pictureOf rawOf overdrawn draw over dot regionGood payloadGood stepFrom clockRefused polled pollRun pollAt dueOf runValid fillValid headerBegins starting
+unfolding line evenByte oddByte scanByte codeBy rowDot handedLine sumOf pushed dotBits scanBits pushOf regionUpload stateValid settingsGood stepOf writeOf waitOf requiredData dataLength channelData gateSourceLevel withRegion withPicture withBytes slotPicture slotBytes pictureOf rawOf overdrawn draw over dot regionGood payloadGood stepFrom clockRefused polled pollRun pollAt dueOf runValid fillValid headerBegins summariesGood summaryGood starting
 worked-by-hand =
     record {
       line-b4 = refl;

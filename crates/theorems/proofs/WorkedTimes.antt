@@ -13,6 +13,7 @@ use Rattle.run.specs.Place.{nextPosition}
 use Rattle.run.specs.Due.{dueOf}
 use Rattle.bitmap_prefix.specs.Begins.{headerBegins}
 use Rattle.fill.specs.Conditions.{fillValid}
+use Rattle.summary.specs.Conditions.{summaryGood, summariesGood}
 use Rattle.run.specs.Conditions.{runValid}
 use Rattle.run.specs.declared.Position.{Position}
 use Rattle.run.specs.declared.Position.the-variants.{Line, Stop}
@@ -65,7 +66,7 @@ pub record WorkedTimes : Type 0 where
   pub next-due : dueNext 0 fourPolls ≡ 21
 
 pub worked-times : WorkedTimes
-unfolding stateValid settingsGood stepOf writeOf waitOf requiredData dataLength channelData gateSourceLevel stepFrom clockRefused polled pollRun pollAt dueOf runValid fillValid headerBegins starting nextPosition
+unfolding stateValid settingsGood stepOf writeOf waitOf requiredData dataLength channelData gateSourceLevel stepFrom clockRefused polled pollRun pollAt dueOf runValid fillValid headerBegins summariesGood summaryGood starting nextPosition
 worked-times =
     record {
       wait-14 = refl;

@@ -12,7 +12,7 @@ use Rattle.picture.specs.Slots.{slotPicture}
 use Rattle.bitmap.specs.Header.{fileLength}
 use Rattle.bitmap_prefix.specs.Meaning.{AreBytes}
 use Rattle.board.specs.State.{fileOf, sizesOf}
-use Rattle.board.specs.Calls.{reply, uploadCases, bitmapUpload, bitmapWrite}
+use Rattle.board.specs.Calls.{reply, counted, uploadCases, bitmapUpload, bitmapWrite}
 use Rattle.board.specs.declared.State.{State}
 use Rattle.board.specs.declared.Reply.{Reply}
 
@@ -20,9 +20,10 @@ use Rattle.board.specs.declared.Reply.{Reply}
 abbrev pub fileLeft : (shape : Shape) (out : List ℕ) → List ℕ
 fileLeft shape out = take (fileLength (shape .rows) (shape .stride)) out
 
--- what an upload left: it is accepted, its slot holds the picture of the slot that was written, and every other slot is as it was
+-- what an upload left: it is accepted, with a fresh count of its slot; the slot holds the picture of the slot that was written, and every
+-- other slot is as it was
 pub record Carried (shape : Shape) (written : List ℕ) (source : ℕ) (state : State) (before : List ℕ) (slot : ℕ) (left : Reply × List ℕ) : Type 0 where
-  pub accepted : left .0 ≡ reply 0 state
+  pub accepted : left .0 ≡ reply 0 (counted shape state (left .1) slot)
   pub holds : slotPicture (shape .bytes) (shape .rows) (left .1) slot ≡ slotPicture (shape .bytes) (shape .rows) written source
   pub others : (t : ℕ) → (t ≡ slot → ⊥)
       → slotPicture (shape .bytes) (shape .rows) (left .1) t ≡ slotPicture (shape .bytes) (shape .rows) before t

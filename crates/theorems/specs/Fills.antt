@@ -15,7 +15,7 @@ use Rattle.bitmap_prefix.specs.Begins.{beginsGood}
 use Rattle.fill.specs.Fills.{slotOf}
 use Rattle.board.specs.State.{sizesOf}
 use Rattle.board.specs.Calls.{bitmapUpload, fillBegin}
-use Rattle.board.specs.History.{Call, uploadRegion, uploadBitmap, beginFill, feedFill, finishFill, cancelFill, start, poll, abandon, writeBitmap, numberGiven, givenBy, Called, callOn, memoryAfter}
+use Rattle.board.specs.History.{Call, uploadRegion, uploadBitmap, beginFill, feedFill, finishFill, cancelFill, start, poll, abandon, writeBitmap, summary, numberGiven, givenBy, Called, callOn, memoryAfter}
 use Rattle.board.specs.declared.State.{State}
 use Rattle.theorems.specs.Progress.{stateAfter}
 use Rattle.bitmap_prefix.specs.Meaning.{AreBytes}
@@ -32,6 +32,7 @@ chunkOf (start slot tick) = []
 chunkOf (poll tick out) = []
 chunkOf abandon = []
 chunkOf (writeBitmap slot out) = []
+chunkOf (summary slot) = []
 
 abbrev pub sentBy : List Call → List ℕ
 sentBy [] = []
@@ -49,6 +50,7 @@ keepsFilling (start slot tick) = true
 keepsFilling (poll tick out) = true
 keepsFilling abandon = true
 keepsFilling (writeBitmap slot out) = true
+keepsFilling (summary slot) = true
 
 abbrev pub allKeepFilling : List Call → Bool
 allKeepFilling [] = true

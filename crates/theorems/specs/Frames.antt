@@ -18,7 +18,7 @@ use Rattle.poll.specs.declared.Answer.{Answer}
 use Rattle.poll.specs.declared.Answer.the-variants as answer
 use Rattle.board.specs.State.{fileOf}
 use Rattle.board.specs.Calls.{starting}
-use Rattle.board.specs.History.{Call, Given, number, answered, isDone, Event, event, eventsOf}
+use Rattle.board.specs.History.{Call, Given, number, answered, summed, isDone, Event, event, eventsOf}
 use Rattle.theorems.specs.Progress.{noTurns}
 use Rattle.board.specs.declared.State.{State}
 
@@ -72,6 +72,7 @@ putsBytes answer.Done = false
 
 abbrev pub putsAny : Given → Bool
 putsAny (number n) = false
+putsAny (summed n held) = false
 putsAny (answered given) = putsBytes given
 
 abbrev pub handedBy : Event → List (List ℕ)

@@ -10,3 +10,5 @@ pub mod Frames
 pub mod Copies
 -- A bitmap file that comes in chunks.
 pub mod Fills
+-- A summary beside each slot.
+pub mod Summaries

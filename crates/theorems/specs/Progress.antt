@@ -7,7 +7,7 @@ use mathlib.Core.List.{List, [], _∷_}
 use Rattle.poll.specs.HandOut.{Outcome, outcome}
 use Rattle.poll.specs.declared.Answer.{Answer}
 use Rattle.poll.specs.declared.Answer.the-variants as answer
-use Rattle.board.specs.History.{Call, Part, starts, polls, abandons, noPart, partOf, Given, number, answered, isAccepted, Event, event, callOn}
+use Rattle.board.specs.History.{Call, Part, starts, polls, abandons, noPart, partOf, Given, number, answered, summed, isAccepted, Event, event, callOn}
 use Rattle.theorems.specs.Order.{Thing, thingBytes, thingAnswer}
 use Rattle.board.specs.declared.State.{State}
 
@@ -21,6 +21,7 @@ isHandOut answer.Done = true
 
 abbrev pub handsOut : Given → Bool
 handsOut (number n) = false
+handsOut (summed n held) = false
 handsOut (answered given) = isHandOut given
 
 -- one event, with the things to come before and after it, for a run that shows a slot

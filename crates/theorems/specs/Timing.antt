@@ -16,7 +16,7 @@ use Rattle.poll.specs.declared.Answer.{Answer}
 use Rattle.poll.specs.declared.Answer.the-variants as answer
 use Rattle.board.specs.State.{fileOf}
 use Rattle.board.specs.Calls.{opening, starting}
-use Rattle.board.specs.History.{Call, Part, starts, polls, abandons, noPart, partOf, Given, number, answered, isAccepted, Event, event, eventsOf}
+use Rattle.board.specs.History.{Call, Part, starts, polls, abandons, noPart, partOf, Given, number, answered, summed, isAccepted, Event, event, eventsOf}
 use Rattle.theorems.specs.Order.{Thing, aWrite, aLine, theEnd, thingBytes, thingAnswer}
 use Rattle.theorems.specs.Progress.{isHandOut, handsOut}
 use Rattle.board.specs.declared.State.{State}
@@ -164,6 +164,7 @@ afterAnswer slot watch tick answer.Done = noRun
 abbrev pub afterPoll : Observed → Tick → Given → Observed
 afterPoll noRun tick given = noRun
 afterPoll (aRun slot watch) tick (number n) = aRun slot watch
+afterPoll (aRun slot watch) tick (summed n held) = aRun slot watch
 afterPoll (aRun slot watch) tick (answered given) = afterAnswer slot watch tick given
 
 -- a run is under way from an accepted start to the poll that answers done or to an accepted abandon
@@ -201,6 +202,7 @@ pub record OnTime (file memory : List ℕ) (slot now due : ℕ) (toCome : List I
 
 abbrev pub AnswerOnTime : (from : ℕ) (file : List ℕ) (slot : ℕ) → Watch → (tick : Tick) (memory : List ℕ) → Given → (put : List ℕ) → Type 0
 AnswerOnTime from file slot watch tick memory (number n) put = put ≡ []
+AnswerOnTime from file slot watch tick memory (summed n held) put = put ≡ []
 AnswerOnTime from file slot watch tick memory (answered given) put =
     answerNumber given ≡ 0 → OnTime file memory slot (nowAt watch tick) (dueNext from watch) (watch .toCome) given put
 

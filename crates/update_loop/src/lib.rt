@@ -16,6 +16,9 @@ ghost use Rattle.update_loop.specs.Loop.{
   numbered,
   updated,
 };
+
+pub mod parts;
+
 use board::State;
 use poll::Answer;
 use run::Tick;

@@ -11,12 +11,14 @@ fn with_fill(state: State, fill: Fill) -> State {
     let settings = state.settings;
     let store = state.store;
     let phase = store.phase;
+    let summaries = store.summaries;
     State {
         settings,
         store: Store {
             slots: store.slots,
             phase,
             fill,
+            summaries,
         },
     }
 }

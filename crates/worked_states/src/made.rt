@@ -62,12 +62,14 @@ pub fn with_run(state: State, run: Run) -> State {
     let settings = state.settings;
     let store = state.store;
     let fill = store.fill;
+    let summaries = store.summaries;
     State {
         settings,
         store: Store {
             slots: store.slots,
             phase: Phase::Running(run),
             fill,
+            summaries,
         },
     }
 }
@@ -87,9 +89,15 @@ pub fn with_slots(state: State, slots: u32) -> State {
     let store = state.store;
     let phase = store.phase;
     let fill = store.fill;
+    let summaries = store.summaries;
     State {
         settings,
-        store: Store { slots, phase, fill },
+        store: Store {
+            slots,
+            phase,
+            fill,
+            summaries,
+        },
     }
 }
 
@@ -129,12 +137,12 @@ pub fn keeps(letter: &[u8], state: State) {
 }
 
 // The same of a made-up run, at its last tick.
-fn broken(letter: &[u8], state: State, run: Run) {
-    breaks(letter, with_run(state, run));
+fn broken(letter: &[u8], run: Run) {
+    breaks(letter, with_run(opened(), run));
 }
 
-fn kept(letter: &[u8], state: State, run: Run) {
-    keeps(letter, with_run(state, run));
+fn kept(letter: &[u8], run: Run) {
+    keeps(letter, with_run(opened(), run));
 }
 
 // A store with no run, of slots 0 and 1.
@@ -207,63 +215,63 @@ fn store(state: State) {
 }
 
 // (c) and (d), of a run anywhere.
-fn anywhere(state: State) {
-    broken(b"c", state, run(0, 0, 5, 5, line(1, 0, 1)));
-    broken(b"c", state, run(2, 0, 5, 5, line(1, 0, 1)));
-    kept(b"c", state, run(1, 0, 5, 5, line(1, 0, 1)));
-    broken(b"d", state, run(1, 0, 6, 5, line(1, 0, 1)));
-    kept(b"d", state, run(1, 0, 5, 6, line(1, 0, 1)));
+fn anywhere() {
+    broken(b"c", run(0, 0, 5, 5, line(1, 0, 1)));
+    broken(b"c", run(2, 0, 5, 5, line(1, 0, 1)));
+    kept(b"c", run(1, 0, 5, 5, line(1, 0, 1)));
+    broken(b"d", run(1, 0, 6, 5, line(1, 0, 1)));
+    kept(b"d", run(1, 0, 5, 6, line(1, 0, 1)));
 }
 
 // (e) to (h), before the first line.
-fn before_lines(state: State) {
-    broken(b"e", state, run(1, 0, 5, 5, Position::Start(4)));
-    kept(b"e", state, run(1, 0, 5, 5, Position::Start(3)));
-    broken(b"f", state, run(1, 0, 5, 5, Position::Start(1)));
-    kept(b"f", state, run(1, 0, 5, 5, Position::Start(2)));
-    broken(b"g", state, run(1, 0, 1, 5, Position::Start(0)));
-    kept(b"g", state, run(1, 0, 0, 4, Position::Start(0)));
-    broken(b"h", state, run(1, 1, 0, 5, Position::Start(0)));
-    broken(b"h", state, run(1, 1, 5, 5, Position::Start(2)));
-    kept(b"h", state, run(1, 0, 0, 5, Position::Start(0)));
+fn before_lines() {
+    broken(b"e", run(1, 0, 5, 5, Position::Start(4)));
+    kept(b"e", run(1, 0, 5, 5, Position::Start(3)));
+    broken(b"f", run(1, 0, 5, 5, Position::Start(1)));
+    kept(b"f", run(1, 0, 5, 5, Position::Start(2)));
+    broken(b"g", run(1, 0, 1, 5, Position::Start(0)));
+    kept(b"g", run(1, 0, 0, 4, Position::Start(0)));
+    broken(b"h", run(1, 1, 0, 5, Position::Start(0)));
+    broken(b"h", run(1, 1, 5, 5, Position::Start(2)));
+    kept(b"h", run(1, 0, 0, 5, Position::Start(0)));
 }
 
 // (i) and (j), among the lines.
-fn among_lines(state: State) {
-    broken(b"i", state, run(1, 0, 3000, 3000, line(0, 5, 5)));
-    broken(b"i", state, run(1, 0, 3000, 3000, line(5, 5, 5)));
-    broken(b"i", state, run(1, 0, 3000, 3000, line(2, 16, 5)));
-    broken(b"i", state, run(1, 0, 3000, 3000, line(2, 5, 96)));
-    kept(b"i", state, run(1, 0, 3000, 3000, line(1, 0, 1)));
-    kept(b"i", state, run(1, 0, 3000, 3000, line(4, 15, 95)));
-    broken(b"j", state, run(1, 0, 3000, 3000, line(1, 0, 0)));
-    kept(b"j", state, run(1, 0, 3000, 3000, line(2, 0, 0)));
+fn among_lines() {
+    broken(b"i", run(1, 0, 3000, 3000, line(0, 5, 5)));
+    broken(b"i", run(1, 0, 3000, 3000, line(5, 5, 5)));
+    broken(b"i", run(1, 0, 3000, 3000, line(2, 16, 5)));
+    broken(b"i", run(1, 0, 3000, 3000, line(2, 5, 96)));
+    kept(b"i", run(1, 0, 3000, 3000, line(1, 0, 1)));
+    kept(b"i", run(1, 0, 3000, 3000, line(4, 15, 95)));
+    broken(b"j", run(1, 0, 3000, 3000, line(1, 0, 0)));
+    kept(b"j", run(1, 0, 3000, 3000, line(2, 0, 0)));
 }
 
 // (k): the line before went out when its frame was due; the due moment does not wrap.
-fn line_before(state: State) {
+fn line_before() {
     let end = u64::MAX;
-    broken(b"k", state, run(1, 0, 29, 100, line(1, 1, 1)));
-    broken(b"k", state, run(1, 0, 29, 100, line(1, 2, 0)));
-    broken(b"k", state, run(1, 6, 5, 100, line(1, 0, 1)));
-    broken(b"k", state, run(1, end - 29, end, end, line(1, 1, 1)));
-    kept(b"k", state, run(1, 0, 30, 100, line(1, 1, 1)));
-    kept(b"k", state, run(1, 0, 30, 30, line(1, 2, 0)));
-    kept(b"k", state, run(1, end - 30, end, end, line(1, 1, 1)));
+    broken(b"k", run(1, 0, 29, 100, line(1, 1, 1)));
+    broken(b"k", run(1, 0, 29, 100, line(1, 2, 0)));
+    broken(b"k", run(1, 6, 5, 100, line(1, 0, 1)));
+    broken(b"k", run(1, end - 29, end, end, line(1, 1, 1)));
+    kept(b"k", run(1, 0, 30, 100, line(1, 1, 1)));
+    kept(b"k", run(1, 0, 30, 30, line(1, 2, 0)));
+    kept(b"k", run(1, end - 30, end, end, line(1, 1, 1)));
 }
 
 // (l) and (m), after the lines.
-fn after_lines(state: State) {
+fn after_lines() {
     let end = u64::MAX;
-    broken(b"l", state, run(1, 0, 3000, 3000, Position::Stop(3)));
-    broken(b"l", state, run(1, 0, 3000, 3000, Position::Stop(2)));
-    kept(b"l", state, run(1, 0, 3000, 3000, Position::Stop(1)));
-    broken(b"m", state, run(1, 0, 1889, 3000, Position::Stop(0)));
-    broken(b"m", state, run(1, 0, 1919, 3000, Position::Stop(1)));
-    broken(b"m", state, run(1, end - 1919, end, end, Position::Stop(1)));
-    kept(b"m", state, run(1, 0, 1890, 1890, Position::Stop(0)));
-    kept(b"m", state, run(1, 0, 1890, 1920, Position::Stop(0)));
-    kept(b"m", state, run(1, 0, 1920, 1935, Position::Stop(1)));
+    broken(b"l", run(1, 0, 3000, 3000, Position::Stop(3)));
+    broken(b"l", run(1, 0, 3000, 3000, Position::Stop(2)));
+    kept(b"l", run(1, 0, 3000, 3000, Position::Stop(1)));
+    broken(b"m", run(1, 0, 1889, 3000, Position::Stop(0)));
+    broken(b"m", run(1, 0, 1919, 3000, Position::Stop(1)));
+    broken(b"m", run(1, end - 1919, end, end, Position::Stop(1)));
+    kept(b"m", run(1, 0, 1890, 1890, Position::Stop(0)));
+    kept(b"m", run(1, 0, 1890, 1920, Position::Stop(0)));
+    kept(b"m", run(1, 0, 1920, 1935, Position::Stop(1)));
 }
 
 pub fn examples() {
@@ -273,10 +281,10 @@ pub fn examples() {
     late_first(state);
     last_first(state);
     store(state);
-    anywhere(state);
-    before_lines(state);
-    among_lines(state);
-    line_before(state);
-    after_lines(state);
+    anywhere();
+    before_lines();
+    among_lines();
+    line_before();
+    after_lines();
     ask(b"the empty state: ", board::empty_state(), 0);
 }

@@ -2,6 +2,7 @@
 mod fills;
 mod made;
 mod rooms;
+mod summaries;
 mod tell;
 mod time;
 
@@ -9,4 +10,5 @@ fn main() {
     time::examples();
     made::examples();
     fills::examples();
+    summaries::examples();
 }

@@ -13,8 +13,11 @@ no-settings-requires c κs = search needs
 empty-requires : tie.Need-empty-requires
 empty-requires c κs = search needs
 
+empty-summaries-requires : tie.Need-empty-summaries-requires
+empty-summaries-requires c κs = search needs
+
 returns : tie.Need-returns
-returns c = rw (c .before .no-settings .ensures, c .empty .ensures)
+returns c = rw (c .before .before .no-settings .ensures, c .before .empty .ensures, c .empty-summaries .ensures)
 
 pub empty-state-spec : {M : Type 1} → statement M
-empty-state-spec = tie.close (tie.spec no-settings-requires empty-requires returns)
+empty-state-spec = tie.close (tie.spec no-settings-requires empty-requires empty-summaries-requires returns)

@@ -7,10 +7,10 @@ use denote.Ref.{now}
 use Rattle.lists.specs.Rules.{allBelow}
 use Rattle.lists.proofs.Rules.{refused, passed}
 use Rattle.layout.specs.Boxes.{childCount, childGood}
-use Rattle.layout.proofs.Below.{all-more}
 use Rattle.layout.proofs.Boxes.{box-full, box-broken, box-kept}
 use borrow.Author.Needs.{needs}
 use native.Mathlib.Omega.{arith}
+use Rattle.counting.proofs.Below.{all-more}
 use Rattle.layout.proofs.box_good.Statement.{statement}
 use Rattle.layout.proofs.box_good.Tie as tie
 

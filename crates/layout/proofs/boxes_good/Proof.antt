@@ -7,10 +7,10 @@ use denote.Ref.{now}
 use Rattle.lists.specs.Rules.{allBelow}
 use Rattle.lists.proofs.Rules.{refused, passed, below-fails}
 use Rattle.layout.specs.Boxes.{boxCount, startOf, boxGood}
-use Rattle.layout.proofs.Below.{all-more}
 use Rattle.layout.proofs.Boxes.{next-start, box-within, some-bytes}
 use borrow.Author.Needs.{needs}
 use native.Mathlib.Omega.{arith}
+use Rattle.counting.proofs.Below.{all-more}
 use Rattle.layout.proofs.boxes_good.Statement.{statement}
 use Rattle.layout.proofs.boxes_good.Tie as tie
 

@@ -8,10 +8,10 @@ use borrow.Author.Tests.{eq-eqb, ne-eqb}
 use Rattle.lists.specs.Rules.{allBelow}
 use Rattle.lists.proofs.Rules.{below-fails}
 use Rattle.layout.specs.Boxes.{boxCount, timesChild, childOnce}
-use Rattle.layout.proofs.Below.{all-more}
 use Rattle.layout.proofs.Boxes.{some-bytes}
 use borrow.Author.Needs.{needs}
 use native.Mathlib.Omega.{arith}
+use Rattle.counting.proofs.Below.{all-more}
 use Rattle.layout.proofs.each_once.Statement.{statement}
 use Rattle.layout.proofs.each_once.Tie as tie
 

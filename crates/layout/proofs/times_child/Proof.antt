@@ -3,12 +3,12 @@
 use mathlib.Core.Path.{_≡_, refl, _∙_}
 use Prim.Native.Nat.{ℕ, _-_, _*_, _≤_}
 use denote.Ref.{now}
-use Rattle.layout.specs.Below.{sumBelow}
 use Rattle.layout.specs.Boxes.{boxCount, startOf, timesIn}
-use Rattle.layout.proofs.Below.{sum-more}
 use Rattle.layout.proofs.Boxes.{next-start, box-within, some-bytes}
 use borrow.Author.Needs.{needs}
 use native.Mathlib.Omega.{arith}
+use Rattle.counting.specs.Below.{sumBelow}
+use Rattle.counting.proofs.Below.{sum-more}
 use Rattle.layout.proofs.times_child.Statement.{statement}
 use Rattle.layout.proofs.times_child.Tie as tie
 

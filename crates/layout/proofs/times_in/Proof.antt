@@ -6,11 +6,11 @@ use Prim.Native.Nat.{_+_, _-_, _≤_}
 use lib.ListN.{getD}
 use denote.Ref.{now}
 use borrow.Author.Tests.{eq-eqb, ne-eqb}
-use Rattle.layout.specs.Below.{countBelow}
 use Rattle.layout.specs.Boxes.{childCount, childOf, isChild}
-use Rattle.layout.proofs.Below.{counted, skipped}
 use borrow.Author.Needs.{needs}
 use native.Mathlib.Omega.{arith}
+use Rattle.counting.specs.Below.{countBelow}
+use Rattle.counting.proofs.Below.{counted, skipped}
 use Rattle.layout.proofs.times_in.Statement.{statement}
 use Rattle.layout.proofs.times_in.Tie as tie
 

@@ -5,9 +5,9 @@ use Prim.Native.Nat.{_+_, _-_, _*_, _≤_}
 use denote.Ref.{now}
 use Rattle.layout.specs.Boxes.{weightOf}
 use Rattle.layout.specs.Places.{weightsBelow}
-use Rattle.layout.proofs.Below.{sum-more}
 use borrow.Author.Needs.{needs}
 use native.Mathlib.Omega.{arith}
+use Rattle.counting.proofs.Below.{sum-more}
 use Rattle.layout.proofs.weights_below.Statement.{statement}
 use Rattle.layout.proofs.weights_below.Tie as tie
 

@@ -27,15 +27,18 @@ returns c =
 with-phase-requires : tie.Need-with-phase-requires
 with-phase-requires c κs = search needs
 
+with-store-requires : tie.Need-with-store-requires
+with-store-requires c κs = search needs
+
 returns-2 : tie.Need-returns-2
 returns-2 c =
-    let a = c .before .before .before .before .before .before .args in
+    let a = c .before .before .before .before .before .before .before .args in
     let s = a .self in
     let m = length (now (a .memory)) in
-    let is = after-cases (storeCases s m) (abandonOwn (s .store)) refl (c .before .before .before .before .check .ensures .number-is) (c .before .before .abandon-number .ensures) in
-    search (needs, abandon-accepted s m is (c .with-phase .ensures) (c .before .if1 .left))
+    let is = after-cases (storeCases s m) (abandonOwn (s .store)) refl (c .before .before .before .before .before .check .ensures .number-is) (c .before .before .before .abandon-number .ensures) in
+    search (needs, abandon-accepted s m is (c .before .with-phase .ensures) (c .with-store .ensures) (c .before .before .if1 .left))
 
 pub abandon-spec : {M : Type 1} → statement M
 abandon-spec =
     tie.close
-    (tie.spec check-requires abandon-number-requires returns with-phase-requires returns-2)
+    (tie.spec check-requires abandon-number-requires returns with-phase-requires with-store-requires returns-2)

@@ -30,13 +30,16 @@ begun-requires c κs = search needs
 with-fill-requires : tie.Need-with-fill-requires
 with-fill-requires c κs = search needs
 
+with-store-requires : tie.Need-with-store-requires
+with-store-requires c κs = search needs
+
 returns-2 : tie.Need-returns-2
 returns-2 c =
-    let a = c .before .before .before .before .before .before .before .args in
+    let a = c .before .before .before .before .before .before .before .before .args in
     let s = a .self in
     let m = length (now (a .memory)) in
-    let is = after-cases (storeCases s m) (beginOwn (s .store) (a .slot)) refl (c .before .before .before .before .before .check .ensures .number-is) (c .before .before .before .begin-number .ensures) in
-    search (needs, begin-accepted s m (a .slot) is (c .before .begun .ensures) (c .with-fill .ensures) (c .before .before .if1 .left))
+    let is = after-cases (storeCases s m) (beginOwn (s .store) (a .slot)) refl (c .before .before .before .before .before .before .check .ensures .number-is) (c .before .before .before .before .begin-number .ensures) in
+    search (needs, begin-accepted s m (a .slot) is (c .before .before .begun .ensures) (c .before .with-fill .ensures) (c .with-store .ensures) (c .before .before .before .if1 .left))
 
 pub begin-fill-spec : {M : Type 1} → statement M
 begin-fill-spec =
@@ -47,4 +50,5 @@ begin-fill-spec =
     returns
     begun-requires
     with-fill-requires
+    with-store-requires
     returns-2)

@@ -1,6 +1,6 @@
 -- `feed_fill`, by its numbers. Assumes nothing.
 use denote.Ref.{now}
-use Rattle.board.proofs.Tests.{fill-slot}
+use Rattle.board.proofs.Tests.{slot-still, fill-slot}
 use Rattle.board.proofs.Replies.{feed-refused, fed-replied}
 use borrow.Author.Needs.{needs}
 use Rattle.board.proofs.State.feed_fill.Statement.{statement}
@@ -19,19 +19,24 @@ feed-slot-requires c κs =
     let a = c .before .before .before .before .before .before .before .before .args in
     fill-slot (a .self) _ (c .before .before .before .before .before .check-fill .ensures) (c .before .before .before .if1 .left)
 
+chunk-wrote-requires : tie.Need-chunk-wrote-requires
+chunk-wrote-requires c κs = c .before .before .before .before .before .before .before .before .check-fill .ensures .plan (c .before .before .before .before .before .before .if1 .left) .sized
+
 reply-fed-requires : tie.Need-reply-fed-requires
-reply-fed-requires c κs = search needs
+reply-fed-requires c κs =
+    let a = c .before .before .before .before .before .before .before .before .before .before .before .before .before .args in
+    slot-still (fill-slot (a .self) _ (c .before .before .before .before .before .before .before .before .before .before .check-fill .ensures) (c .before .before .before .before .before .before .before .before .if1 .left)) (search needs)
 
 same-length : tie.Need-same-length
 same-length c = search needs
 
 returns-2 : tie.Need-returns-2
 returns-2 c =
-    let a = c .before .before .before .before .before .before .before .before .before .before .before .before .args in
-    let found = c .before .before .before .before .before .before .before .before .before .check-fill .ensures in
-    let zero = c .before .before .before .before .before .before .before .if1 .left in
-    search (needs, fed-replied (a .self) (now (a .memory)) (found .number-is) zero (found .plan zero .shape-is) (c .reply-fed .ensures) (now (a .chunk)) (c .before .before .before .feed-slot .ensures))
+    let a = c .before .before .before .before .before .before .before .before .before .before .before .before .before .before .args in
+    let found = c .before .before .before .before .before .before .before .before .before .before .before .check-fill .ensures in
+    let zero = c .before .before .before .before .before .before .before .before .before .if1 .left in
+    search (needs, fed-replied (a .self) (now (a .memory)) (found .number-is) zero (found .plan zero .shape-is) (c .reply-fed .ensures) (now (a .chunk)) (c .before .before .chunk-wrote .ensures) (c .before .before .before .before .before .feed-slot .ensures))
 
 pub feed-fill-spec : {M : Type 1} → statement M
 feed-fill-spec =
-    tie.close (tie.spec check-fill-requires returns feed-slot-requires reply-fed-requires same-length returns-2)
+    tie.close (tie.spec check-fill-requires returns feed-slot-requires chunk-wrote-requires reply-fed-requires same-length returns-2)

@@ -1,6 +1,7 @@
 -- `finish_fill`, by its numbers. Assumes nothing.
+use mathlib.Core.Path.{refl}
 use denote.Ref.{now}
-use Rattle.board.proofs.Tests.{fill-slot}
+use Rattle.board.proofs.Tests.{slot-still, fill-slot}
 use Rattle.board.proofs.Replies.{finish-refused, finish-replied}
 use borrow.Author.Needs.{needs}
 use Rattle.board.proofs.State.finish_fill.Statement.{statement}
@@ -20,17 +21,19 @@ finish-slot-requires c κs =
     fill-slot (a .self) _ (c .before .before .before .before .before .check-fill .ensures) (c .before .before .before .if1 .left)
 
 reply-fed-requires : tie.Need-reply-fed-requires
-reply-fed-requires c κs = search needs
+reply-fed-requires c κs =
+    let a = c .before .before .before .before .before .before .before .before .before .before .before .before .args in
+    slot-still (fill-slot (a .self) _ (c .before .before .before .before .before .before .before .before .before .before .check-fill .ensures) (c .before .before .before .before .before .before .before .before .if1 .left)) (search needs)
 
 same-length : tie.Need-same-length
 same-length c = search needs
 
 returns-2 : tie.Need-returns-2
 returns-2 c =
-    let a = c .before .before .before .before .before .before .before .before .before .before .before .args in
-    let found = c .before .before .before .before .before .before .before .before .before .check-fill .ensures in
-    let zero = c .before .before .before .before .before .before .before .if1 .left in
-    search (needs, finish-replied (a .self) (now (a .memory)) (found .number-is) zero (found .plan zero .shape-is) (c .reply-fed .ensures) (c .before .before .before .finish-slot .ensures))
+    let a = c .before .before .before .before .before .before .before .before .before .before .before .before .before .args in
+    let found = c .before .before .before .before .before .before .before .before .before .before .before .check-fill .ensures in
+    let zero = c .before .before .before .before .before .before .before .before .before .if1 .left in
+    search (needs, finish-replied (a .self) (now (a .memory)) (found .number-is) zero (found .plan zero .shape-is) (c .reply-fed .ensures) refl (c .before .before .before .before .before .finish-slot .ensures))
 
 pub finish-fill-spec : {M : Type 1} → statement M
 finish-fill-spec =

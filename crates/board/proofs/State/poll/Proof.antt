@@ -7,8 +7,8 @@ use Rattle.board.proofs.State.poll.Tie as tie
 poll-store-requires : tie.Need-poll-store-requires
 poll-store-requires c κs = search needs
 
-with-phase-requires : tie.Need-with-phase-requires
-with-phase-requires c κs = search needs
+with-store-requires : tie.Need-with-store-requires
+with-store-requires c κs = search needs
 
 same-length : tie.Need-same-length
 same-length c = search needs
@@ -18,9 +18,9 @@ same-length-2 c = search needs
 
 returns : tie.Need-returns
 returns c =
-    let a = c .before .before .before .before .before .before .before .before .before .before .before .before .before .before .args in
-    search (needs, poll-whole (a .t1) (a .tick) (a .memory .now) (a .out .now) (c .with-phase .ensures) (c .before .before .before .before .before .poll-store .ensures))
+    let a = c .before .before .before .before .before .before .before .before .before .before .before .before .before .before .before .args in
+    search (needs, poll-whole (a .t1) (a .tick) (a .memory .now) (a .out .now) (c .with-store .ensures) (c .before .before .before .before .before .before .poll-store .ensures))
 
 pub poll-spec : {M : Type 1} → statement M
 poll-spec =
-    tie.close (tie.spec poll-store-requires with-phase-requires same-length same-length-2 returns)
+    tie.close (tie.spec poll-store-requires with-store-requires same-length same-length-2 returns)

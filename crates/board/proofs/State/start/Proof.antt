@@ -30,13 +30,16 @@ begin-requires c κs = search needs
 with-phase-requires : tie.Need-with-phase-requires
 with-phase-requires c κs = search needs
 
+with-store-requires : tie.Need-with-store-requires
+with-store-requires c κs = search needs
+
 returns-2 : tie.Need-returns-2
 returns-2 c =
-    let a = c .before .before .before .before .before .before .before .args in
+    let a = c .before .before .before .before .before .before .before .before .args in
     let s = a .self in
     let m = length (now (a .memory)) in
-    let is = after-cases (storeCases s m) (startOwn (s .store) (a .slot)) refl (c .before .before .before .before .before .check .ensures .number-is) (c .before .before .before .start-number .ensures) in
-    search (needs, start-accepted s m (a .slot) (a .tick) is (c .before .begin .ensures) (c .with-phase .ensures) (c .before .before .if1 .left))
+    let is = after-cases (storeCases s m) (startOwn (s .store) (a .slot)) refl (c .before .before .before .before .before .before .check .ensures .number-is) (c .before .before .before .before .start-number .ensures) in
+    search (needs, start-accepted s m (a .slot) (a .tick) is (c .before .before .begin .ensures) (c .before .with-phase .ensures) (c .with-store .ensures) (c .before .before .before .if1 .left))
 
 pub start-spec : {M : Type 1} → statement M
 start-spec =
@@ -47,4 +50,5 @@ start-spec =
     returns
     begin-requires
     with-phase-requires
+    with-store-requires
     returns-2)

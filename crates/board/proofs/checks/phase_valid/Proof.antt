@@ -20,10 +20,10 @@ run-valid-requires : tie.Need-run-valid-requires
 run-valid-requires c κs = search needs
 
 returns : tie.Need-returns
-returns c = search needs
+returns c = sym (ap (phaseValid (now (c .before .before .before .args .file)) (c .before .before .before .args .store .slots)) (c .enum-told .given .1))
 
 returns-2 : tie.Need-returns-2
-returns-2 c = search needs
+returns-2 c = sym (ap (phaseValid (now (c .before .before .before .args .file)) (c .before .before .before .args .store .slots)) (c .enum-told2 .given .1))
 
 returns-3 : tie.Need-returns-3
 returns-3 c = c .run-valid .ensures ∙ sym (ap (phaseValid (now (c .before .before .before .before .before .args .file)) (c .before .before .before .before .before .args .store .slots)) (c .before .before .phase .given .1))

@@ -5,7 +5,7 @@ use borrow.Author.Tests.{not-false}
 use lib.Seq.{length-take-le}
 use Rattle.lists.proofs.Rules.{refused, passed}
 use Rattle.board.specs.Facts.{stateOf}
-use Rattle.board.proofs.States.{not-within, not-good, no-slots, many-slots, not-phase, fill-decides}
+use Rattle.board.proofs.States.{not-within, not-good, no-slots, many-slots, not-phase, slots-decide}
 use borrow.Author.Needs.{needs}
 use Rattle.board.proofs.checks.plan_state.Statement.{statement}
 use Rattle.board.proofs.checks.plan_state.Tie as tie
@@ -64,14 +64,14 @@ returns-5 c =
     let s = stateOf (now (a .file)) (a .len) (a .store) in
     not-phase s (c .no-plan5 .ensures) (refused (c .before .before .phase-valid .ensures) (c .before .if5 .taken))
 
-fill-valid-requires : tie.Need-fill-valid-requires
-fill-valid-requires c κs = c .before .before .before .before .before .before .before .before .before .before .plan-of .ensures .plan (not-false _ (c .before .before .before .before .before .before .before .if2 .left)) .sized
+slots-valid-requires : tie.Need-slots-valid-requires
+slots-valid-requires c κs = (c .before .before .before .before .before .before .before .before .before .before .plan-of .ensures .plan (not-false _ (c .before .before .before .before .before .before .before .if2 .left)) .sized, c .before .before .before .if4 .left)
 
 returns-6 : tie.Need-returns-6
 returns-6 c =
     let a = c .before .before .before .before .before .before .before .before .before .before .before .before .before .before .before .args in
     let s = stateOf (now (a .file)) (a .len) (a .store) in
-    fill-decides s (c .before .before .before .before .before .before .before .before .before .before .before .before .before .if1 .left) (c .before .before .before .before .before .before .if3 .left) (c .before .before .before .before .if4 .left) (c .before .before .before .before .before .before .before .before .before .before .before .plan-of .ensures .plan (not-false _ (c .before .before .before .before .before .before .before .before .if2 .left))) (passed (c .before .before .before .phase-valid .ensures) (c .before .before .if5 .left)) (c .fill-valid .ensures)
+    slots-decide s (c .before .before .before .before .before .before .before .before .before .before .before .before .before .if1 .left) (c .before .before .before .before .before .before .if3 .left) (c .before .before .before .before .if4 .left) (c .before .before .before .before .before .before .before .before .before .before .before .plan-of .ensures .plan (not-false _ (c .before .before .before .before .before .before .before .before .if2 .left))) (passed (c .before .before .before .phase-valid .ensures) (c .before .before .if5 .left)) (c .slots-valid .ensures)
 
 pub plan-state-spec : {M : Type 1} → statement M
 plan-state-spec =
@@ -90,5 +90,5 @@ plan-state-spec =
     phase-valid-requires
     no-plan-requires-5
     returns-5
-    fill-valid-requires
+    slots-valid-requires
     returns-6)

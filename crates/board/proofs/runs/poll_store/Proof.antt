@@ -1,15 +1,14 @@
 -- A refusal of the store, 9 where no run is under way, or a poll of the run. Assumes nothing.
-use mathlib.Core.Path.{sym, ap, _∙_}
+use mathlib.Core.Path.{ap, _∙_}
 use native.Mathlib.Omega.{arith}
 use Rattle.run.proofs.Valid.{valid-ready}
 use Rattle.run.specs.declared.Phase.the-variants.{Idle, Abandoned, Running}
-use Rattle.poll.specs.declared.Answer.the-variants.{Refused}
-use Rattle.board.specs.State.{fileOf, withPhase}
-use Rattle.board.specs.Calls.{polling, inState}
+use Rattle.board.specs.State.{fileOf}
+use Rattle.board.specs.Calls.{inState}
 use Rattle.board.specs.Facts.{stateOf}
 use Rattle.board.proofs.States.{file-length, run-of}
 use Rattle.board.proofs.Tests.{store-tested, room}
-use Rattle.board.proofs.Replies.{poll-refused, poll-in}
+use Rattle.board.proofs.Replies.{poll-refused, poll-in, poll-left}
 use borrow.Author.Needs.{needs}
 use Rattle.board.proofs.runs.poll_store.Statement.{statement}
 use Rattle.board.proofs.runs.poll_store.Tie as tie
@@ -52,19 +51,25 @@ poll-run-requires c κs =
       room s run (a .memory .now) valid t,
     )
 
+leave-requires : tie.Need-leave-requires
+leave-requires c κs =
+    let a = c .before .before .before .before .before .before .before .before .before .before .before .before .before .before .before .before .before .args in
+    let s = stateOf (a .file .now) (a .len) (a .store) in
+    let t = store-tested s _ (c .before .before .before .before .before .before .before .before .before .before .before .before .before .check-store .ensures) (c .before .before .before .before .before .before .before .before .before .before .before .if1 .left) in
+    let run = c .before .before .before .before .before .before .before .before .before .phase .given .0 .0 in
+    room s run (a .memory .now) (run-of s run (t .valid) (c .before .before .before .before .before .before .before .before .before .phase .given .1)) t .slot-in .few
+
 returns-2 : tie.Need-returns-2
 returns-2 c =
     let a = c .before .before .before .before .before .before .before .before .args in
     let s = stateOf (a .file .now) (a .len) (a .store) in
-    ap (λ p. polling (Refused 9) (withPhase s p) (a .memory .now) (a .out .now)) (sym (c .enum-told .given .1))
-    ∙ poll-in s (a .tick) (a .memory .now) (a .out .now) (c .before .before .before .before .check-store .ensures .number-is) (c .before .before .if1 .left) Idle (c .enum-told .given .1)
+    poll-in s (a .tick) (a .memory .now) (a .out .now) (c .before .before .before .before .check-store .ensures .number-is) (c .before .before .if1 .left) Idle (c .enum-told .given .1)
 
 returns-3 : tie.Need-returns-3
 returns-3 c =
     let a = c .before .before .before .before .before .before .before .before .args in
     let s = stateOf (a .file .now) (a .len) (a .store) in
-    ap (λ p. polling (Refused 9) (withPhase s p) (a .memory .now) (a .out .now)) (sym (c .enum-told2 .given .1))
-    ∙ poll-in s (a .tick) (a .memory .now) (a .out .now) (c .before .before .before .before .check-store .ensures .number-is) (c .before .before .if1 .left) Abandoned (c .enum-told2 .given .1)
+    poll-in s (a .tick) (a .memory .now) (a .out .now) (c .before .before .before .before .check-store .ensures .number-is) (c .before .before .if1 .left) Abandoned (c .enum-told2 .given .1)
 
 same-length : tie.Need-same-length
 same-length c = search needs
@@ -74,11 +79,12 @@ same-length-2 c = search needs
 
 returns-4 : tie.Need-returns-4
 returns-4 c =
-    let a = c .before .before .before .before .before .before .before .before .before .before .before .before .before .before .before .before .before .args in
+    let a = c .before .before .before .before .before .before .before .before .before .before .before .before .before .before .before .before .before .before .args in
     let s = stateOf (a .file .now) (a .len) (a .store) in
-    let known = c .before .before .before .before .before .before .before .before .before .phase in
-    ap (inState s) (c .before .before .before .before .poll-run .ensures)
-    ∙ poll-in s (a .tick) (a .memory .now) (a .out .now) (c .before .before .before .before .before .before .before .before .before .before .before .before .before .check-store .ensures .number-is) (c .before .before .before .before .before .before .before .before .before .before .before .if1 .left) (Running (known .given .0 .0)) (known .given .1)
+    let run = c .before .before .before .before .before .before .before .before .before .before .phase .given .0 .0 in
+    poll-left s (run .slot) _ (c .leave .ensures)
+    ∙ ap (inState s (run .slot)) (c .before .before .before .before .before .poll-run .ensures)
+    ∙ poll-in s (a .tick) (a .memory .now) (a .out .now) (c .before .before .before .before .before .before .before .before .before .before .before .before .before .before .check-store .ensures .number-is) (c .before .before .before .before .before .before .before .before .before .before .before .before .if1 .left) (Running run) (c .before .before .before .before .before .before .before .before .before .before .phase .given .1)
 
 pub poll-store-spec : {M : Type 1} → statement M
 poll-store-spec =
@@ -91,6 +97,7 @@ poll-store-spec =
     enum-known-phase
     slice-aggregate-poll-run
     poll-run-requires
+    leave-requires
     returns-2
     returns-3
     same-length

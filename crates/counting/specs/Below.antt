@@ -12,6 +12,11 @@ sumBelow (suc n) f = sumBelow n f + f n
 abbrev pub countBelow : ℕ → (ℕ → Bool) → ℕ
 countBelow n test = sumBelow n (λ k. cond (test k) 1 0)
 
+-- the first number below n that passes a test; n where there is none
+abbrev pub firstBelow : ℕ → (ℕ → Bool) → ℕ
+firstBelow zero test = 0
+firstBelow (suc n) test = cond (test 0) 0 (suc (firstBelow n (λ k. test (suc k))))
+
 -- the last number below n that passes a test; 0 where there is none
 abbrev pub lastBelow : ℕ → (ℕ → Bool) → ℕ
 lastBelow zero test = 0

@@ -1,22 +1,28 @@
 -- Laws of tests, sums and searches over the numbers below a bound.
 -- Assumes nothing.
-use mathlib.Core.Path.{_≡_, refl, sym, _∙_}
+use mathlib.Core.Path.{_≡_, refl, sym, ap, _∙_}
 use mathlib.Core.Bool.{Bool, true, false, cond, false≢true}
 use mathlib.Core.Logic.{⊎-elim}
-use Prim.Native.Nat.{ℕ, zero, suc, _+_, _-_, _≤_, _<_}
-use native.Mathlib.Nat.{not-suc-le-zero, eq-or-lt-of-le}
+use Prim.Native.Nat.{ℕ, zero, suc, _+_, _-_, _*_, _≤_, _<_}
+use native.Mathlib.Nat.{suc-mul, not-suc-le-zero, eq-or-lt-of-le}
 use native.Mathlib.Numerals.{add-one}
 use native.Mathlib.Decide.{ℕ-discrete}
 use native.Mathlib.Omega.{arith}
 use borrow.Author.Tests.{ltb-true, ltb-false}
 use lib.Dec.{ltb}
 use Rattle.lists.specs.Rules.{allBelow}
-use Rattle.layout.specs.Below.{sumBelow, countBelow, lastBelow}
+use Rattle.lists.proofs.Rules.{by-test}
+use Rattle.counting.specs.Below.{sumBelow, countBelow, firstBelow, lastBelow}
 
 -- ---- one turn of a loop
 
 pub all-more : (i : ℕ) (test : ℕ → Bool) → test i ≡ true → allBelow i test ≡ true → allBelow (i + 1) test ≡ true
 all-more i test e before = rw (add-one, e, before)
+
+-- a test that each number passes
+pub all-each : (n : ℕ) (test : ℕ → Bool) → ((k : ℕ) → k < n → test k ≡ true) → allBelow n test ≡ true
+all-each zero test e = refl
+all-each (suc n) test e = rw (e n (omega arith), all-each n test (λ k h. e k (omega arith)))
 
 -- a test that fails somewhere
 pub all-fails : (n : ℕ) (test : ℕ → Bool) → allBelow n test ≡ false → ((k : ℕ) × (k < n) × (test k ≡ false))
@@ -41,6 +47,51 @@ skipped i test s e t = rw (add-one i, e, t) (omega arith)
 
 -- ---- searches
 
+-- the first number that passes: no number before it does
+pub first-is : (n : ℕ) (test : ℕ → Bool) (k : ℕ) → k < n → test k ≡ true → ((j : ℕ) → j < k → test j ≡ false) → firstBelow n test ≡ k
+first-is zero test k h e fails = absurd (not-suc-le-zero h)
+first-is (suc n) test zero h e fails = rw e
+first-is (suc n) test (suc k) h e fails =
+    rw (fails 0 (omega arith))
+    (ap suc (first-is n (λ i. test (suc i)) k (omega arith) e (λ j l. fails (suc j) (omega arith))))
+
+-- a search that can find something does, and no later than that
+pub first-true : (n : ℕ) (test : ℕ → Bool) (k : ℕ) → k < n → test k ≡ true → (firstBelow n test ≤ k) × (test (firstBelow n test) ≡ true)
+first-true zero test k h e = absurd (not-suc-le-zero h)
+first-true (suc n) test zero h e =
+    by-test (λ (m : ℕ). (m ≤ 0) × (test m ≡ true)) (test 0) 0 (suc (firstBelow n (λ k. test (suc k))))
+    (λ t. (omega arith, t)) (λ t. absurd (false≢true (sym t ∙ e)))
+first-true (suc n) test (suc k) h e =
+    let rest = first-true n (λ i. test (suc i)) k (omega arith) e in
+    by-test (λ (m : ℕ). (m ≤ suc k) × (test m ≡ true)) (test 0) 0 (suc (firstBelow n (λ k. test (suc k))))
+    (λ t. (omega arith, t)) (λ t. (omega (arith, rest .0), rest .1))
+
+-- no number before it passes
+pub first-fails : (n : ℕ) (test : ℕ → Bool) (j : ℕ) → j < n → j < firstBelow n test → test j ≡ false
+first-fails n test j h l = pick (test j) refl where
+  pick : (t : Bool) → test j ≡ t → test j ≡ false
+  pick true t = absurd (omega (arith, first-true n test j h t .0))
+  pick false t = t
+
+-- the last number that passes: no number after it does
+pub last-is : (n : ℕ) (test : ℕ → Bool) (k : ℕ) → k < n → test k ≡ true → ((j : ℕ) → k < j → j < n → test j ≡ false) → lastBelow n test ≡ k
+last-is zero test k h e fails = absurd (not-suc-le-zero h)
+last-is (suc n) test k h e fails =
+    elim (ℕ-discrete k n) [
+      | yes q ↦ let t : test n ≡ true = rw q at e in rw (q, t)
+      | no d ↦ rw (fails n (omega arith) (omega arith)) (last-is n test k (omega arith) e (λ j l m. fails j l (omega arith)))
+    ]
+
+pub last-most : (n : ℕ) (test : ℕ → Bool) (k : ℕ) → k < n → test k ≡ true → k ≤ lastBelow n test
+last-most zero test k h e = absurd (not-suc-le-zero h)
+last-most (suc n) test k h e =
+    by-test (λ (m : ℕ). k ≤ m) (test n) n (lastBelow n test) (λ t. omega arith)
+    (λ t.
+    elim (ℕ-discrete k n) [
+      | yes q ↦ let f : test n ≡ true = rw q at e in absurd (false≢true (sym t ∙ f))
+      | no d ↦ last-most n test k (omega arith) e
+    ])
+
 pub last-lt : (n : ℕ) (test : ℕ → Bool) → 0 < n → lastBelow n test < n
 last-lt n test h = omega (arith, last-le n test) where
   last-le : (n : ℕ) (test : ℕ → Bool) → lastBelow n test ≤ n - 1
@@ -49,6 +100,12 @@ last-lt n test h = omega (arith, last-le n test) where
     pick : (t : Bool) → lastBelow n test ≤ n - 1 → cond t n (lastBelow n test) ≤ suc n - 1
     pick true l = omega arith
     pick false l = omega arith
+
+pub last-fails : (n : ℕ) (test : ℕ → Bool) (j : ℕ) → j < n → lastBelow n test < j → test j ≡ false
+last-fails n test j h l = pick (test j) refl where
+  pick : (t : Bool) → test j ≡ t → test j ≡ false
+  pick true t = absurd (omega (arith, last-most n test j h t))
+  pick false t = t
 
 -- a search that can find something does
 pub last-true : (n : ℕ) (test : ℕ → Bool) (i : ℕ) → i < n → test i ≡ true → test (lastBelow n test) ≡ true
@@ -133,3 +190,20 @@ sum-swap (suc n) m f = rw (sum-swap n m f) (sym (sum-add m (λ j. sumBelow n (λ
 pub sum-ones : (n : ℕ) → sumBelow n (λ i. 1) ≡ n
 sum-ones zero = refl
 sum-ones (suc n) = omega (arith, sum-ones n)
+
+-- terms of at most m each
+pub sum-most : (n m : ℕ) (f : ℕ → ℕ) → ((k : ℕ) → f k ≤ m) → sumBelow n f ≤ n * m
+sum-most zero m f e = omega arith
+sum-most (suc n) m f e = rw suc-mul (omega (arith, sum-most n m f e, e n))
+
+-- the next m terms are a sum of their own
+pub sum-parts : (n m : ℕ) (f : ℕ → ℕ) → sumBelow (n + m) f ≡ sumBelow n f + sumBelow m (λ i. f (n + i))
+sum-parts n zero f = let e : n + 0 ≡ n = omega arith in rw e (omega arith)
+sum-parts n (suc m) f =
+    let e : n + suc m ≡ suc (n + m) = omega arith in
+    rw (e, sum-parts n m f) (omega arith)
+
+-- a sum of n times k terms, k by k
+pub sum-blocks : (n k : ℕ) (f : ℕ → ℕ) → sumBelow (n * k) f ≡ sumBelow n (λ i. sumBelow k (λ j. f (i * k + j)))
+sum-blocks zero k f = let e : 0 * k ≡ 0 = omega arith in rw e
+sum-blocks (suc n) k f = rw (suc-mul, sum-parts (n * k) k f, sum-blocks n k f)
