@@ -4,7 +4,7 @@
 # make bench      compares with plain C, and writes docs/BENCHMARKS.md
 # make layout     draws a layout's leaves as outlines; LIST="01 00" draws another list of boxes
 # make ghosting   simulates a season of trainees' mistakes, and writes docs/GHOSTING.md
-.PHONY: demo demo-finish layout test tests build bench ghosting clean
+.PHONY: demo demo-finish layout test tests test-c test-programs test-store build bench ghosting clean
 
 SHELL = /bin/bash
 CFLAGS = -std=c99 -O2 -Wall -Wextra -pedantic
@@ -44,8 +44,13 @@ build:
 	rt staticlib update_loop
 	rt staticlib by_dots
 
+# Two groups at a time; what a group prints stays together.
 tests: build
 	@mkdir -p $(OUT)
+	@$(MAKE) --no-print-directory --jobs=2 --output-sync=target test-store test-programs test-c
+
+# The calls for C, and the update loop.
+test-c:
 	@echo "== the three C calls against an independent implementation"
 	$(CC) $(CFLAGS) -Iinclude -o $(OUT)/calls tests/calls/compare.c tests/calls/reference.c $(LIBRARY)
 	$(OUT)/calls
@@ -66,6 +71,9 @@ tests: build
 	$(OUT)/hall_example | diff tests/hall/example.expected -
 	@echo "== whole updates of the update loop and regions against plain C"
 	$(PYTHON) -m bench.run --compare
+
+# The programs, but for `replay`.
+test-programs:
 	@echo "== the listing program against an independent implementation"
 	$(PYTHON) -m tests.listing.compare target/bin/settings_list
 	@echo "== bitmaps made by other tools, and damaged ones"
@@ -77,6 +85,9 @@ tests: build
 	$(PYTHON) -m tests.mending.compare target/bin/bitmap_mend $(OUT)/mend_report
 	@echo "== layouts against an independent implementation, every dot counted"
 	$(PYTHON) -m tests.layout.compare target/bin/layout_list
+
+# The store, through `replay`, and what the documents show of it.
+test-store:
 	@echo "== every public call on the store has a place in demand 3"
 	$(PYTHON) tests/chain/calls.py
 	@echo "== the independent implementation by itself: bitmaps by chunks against whole uploads, summaries dot by dot"

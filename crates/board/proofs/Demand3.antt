@@ -20,7 +20,8 @@ use Rattle.balance.proofs.Moves.{moves-within, moves-rest}
 use Rattle.run.specs.Due.{runFrames}
 use Rattle.run.specs.declared.Phase.{Phase}
 use Rattle.run.specs.declared.Phase.the-variants.{Idle, Abandoned, Running}
-use Rattle.board.specs.State.{fileOf, storeBytes, openedState}
+use Rattle.slots.specs.Slots.{storeBytes}
+use Rattle.board.specs.State.{fileOf, openedState}
 use Rattle.board.specs.History.{Call, callOn, eventsOf, memoryAfter, handedOut, atRest, Seen, seenAfter}
 use Rattle.board.specs.Balance.{seenAtOpening, Balanced, Demand3}
 use Rattle.board.specs.declared.State.{State}

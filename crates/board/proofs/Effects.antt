@@ -1,15 +1,13 @@
 -- What a call on the store does, as far as theorems over every list of calls see it. Each call is shown to be one of these effects; what
 -- holds of every effect then holds of every call.
 -- Assumes nothing.
-use mathlib.Core.Path.{_≡_, refl, sym, ap, _∙_, subst}
-use mathlib.Core.Bool.{Bool, true, false, cond, not, false≢true}
+use mathlib.Core.Path.{_≡_, refl, _∙_, subst}
+use mathlib.Core.Bool.{Bool, true, false, false≢true}
 use mathlib.Core.List.{List, [], _++_}
 use Prim.Native.Nat.{ℕ, _-_, _*_, _≤_, _<_}
-use native.Mathlib.Omega.{arith}
 use borrow.Author.Tests.{ltb-true, ltb-false}
 use lib.Dec.{eqb, ltb}
 use lib.ListN.{length, getD}
-use Rattle.lists.specs.Rules.{firstOf}
 use Rattle.lists.proofs.Rules.{None, by-test, by-cases, none-parts}
 use Rattle.panel.specs.Dots.{dot}
 use Rattle.panel.specs.declared.Shape.{Shape}
@@ -17,7 +15,7 @@ use Rattle.panel.proofs.Dots.{dot-lt}
 use Rattle.panel.proofs.Panels.{size-of}
 use Rattle.settings.specs.Settings.{panelOf}
 use Rattle.settings.proofs.Accepted.{good-panel}
-use Rattle.picture.specs.Slots.{slotBytes, withBytes, slotPicture, withPicture}
+use Rattle.picture.specs.Slots.{slotPicture, withPicture}
 use Rattle.picture.specs.Regions.{payloadRow, regionCases, withRegion}
 use Rattle.picture.proofs.Slots.{rows-overdrawn}
 use Rattle.bitmap.proofs.RoundTrip.{length-read}
@@ -37,16 +35,18 @@ use Rattle.run.specs.declared.Phase.{Phase}
 use Rattle.run.specs.declared.Phase.the-variants.{Idle, Abandoned, Running}
 use Rattle.poll.specs.HandOut.{Outcome, outcome, handOut}
 use Rattle.poll.specs.Poll.{pollAt, pollCases, pollRun}
-use Rattle.poll.specs.declared.Answer.{Answer}
 use Rattle.poll.specs.declared.Answer.the-variants as answer
+use Rattle.slots.specs.Slots.{regionDrawn, bitmapCases, bitmapDrawn, onSlot, chunkWrites, finishWrites, bitmapWritten}
+use Rattle.store.specs.Refusals.{isRunning, isFilling, uploadOwn, beginOwn, fillOwn, startOwn, abandonOwn}
+use Rattle.store.proofs.Conditions.{valid-state}
+use Rattle.store.proofs.Cases.{Uploadable, uploadable, Fillable, fillable, filling, Startable, startable, running}
 use Rattle.board.specs.State.{fileOf, sizesOf, withPhase, withFill, storeCases}
-use Rattle.board.specs.Calls.{isRunning, isFilling, reply, counted, uploadOwn, uploadCases, regionDrawn, bitmapCases, bitmapDrawn, drawnTo, regionUpload, bitmapUpload, beginOwn, beginCases, fillBegin, fillOwn, fillCases, onSlot, fedReply, onFill, chunkWrites, finishWrites, fillFeed, fillFinish, fillCancel, startOwn, startCases, starting, abandonOwn, abandonCases, abandoning, Polling, polling, inState, pollPhase, polled, writeCases, bitmapWritten, bitmapWrite, summaryCases, summarised, slotSummary}
+use Rattle.board.specs.Calls.{reply, counted, uploadCases, drawnTo, regionUpload, bitmapUpload, beginCases, fillBegin, fillCases, fedReply, onFill, fillFeed, fillFinish, fillCancel, startCases, starting, abandonCases, abandoning, Polling, polling, inState, pollPhase, polled, writeCases, bitmapWrite, summaryCases, summarised, slotSummary}
 use Rattle.board.specs.History.{Call, uploadRegion, uploadBitmap, beginFill, feedFill, finishFill, cancelFill, start, poll, abandon, writeBitmap, summary, noPart, partOf, Given, number, answered, summed, isAccepted, event, outOf, Called, ofReply, ofPoll, ofSummary, callOn}
 use Rattle.board.specs.declared.State.{State}
 use Rattle.board.specs.declared.Reply.{Reply}
 use Rattle.board.specs.declared.Summarised.{Summarised}
-use Rattle.board.proofs.States.{Tested, tested, valid-state}
-use Rattle.board.proofs.Tests.{Uploadable, uploadable, Fillable, fillable, filling, Startable, startable, running, Told, told}
+use Rattle.board.proofs.Tests.{Tested, tested, Told, told}
 
 -- ---- the effects
 
@@ -145,7 +145,7 @@ module _ (state : State) (memory : List ℕ) where
       (λ free.
       let parts = none-parts (uploadCases state (length memory) slot) own free in
       let store = none-parts (storeCases state (length memory)) (uploadOwn (state .store) slot) (parts .0) in
-      let good = valid-state state (tested state (length memory) (store .0) .valid) .good in
+      let good = valid-state (tested state (length memory) (store .0) .valid) .good in
       let some = size-of (panelOf (fileOf state)) (good-panel (fileOf state) good) .some in
       let dots = dot (payloadRow width) payload in
       let rows = rows-overdrawn b h some (slotPicture b h memory slot) x y width height dots (dot-lt (payloadRow width) payload) in

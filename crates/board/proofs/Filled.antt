@@ -13,7 +13,7 @@ use Rattle.panel.specs.declared.Shape.{Shape}
 use Rattle.panel.proofs.Panels.{size-of}
 use Rattle.settings.specs.Settings.{panelOf}
 use Rattle.settings.proofs.Accepted.{good-panel}
-use Rattle.picture.specs.Slots.{pictureOf, slotBytes, withBytes, slotPicture}
+use Rattle.picture.specs.Slots.{pictureOf, slotBytes, slotPicture}
 use Rattle.picture.proofs.Slots.{slot-fits, length-with, bytes-same, bytes-other}
 use Rattle.lists.specs.Rules.{case, firstOf}
 use Rattle.lists.proofs.Parts.{part-length}
@@ -29,11 +29,13 @@ use Rattle.fill.proofs.Kept.{long, Stands, stands, valid-kept, valid-ended}
 use Rattle.fill.proofs.SoFar.{fill-so-far}
 use Rattle.fill.proofs.Written.{chunk-unwritten}
 use Rattle.fill.proofs.Sizes.{length-fed, length-finished, rows-cancelled}
+use Rattle.slots.specs.Slots.{chunkWrites, finishWrites}
+use Rattle.store.specs.Refusals.{isFilling}
+use Rattle.store.proofs.Conditions.{valid-state}
 use Rattle.board.specs.State.{fileOf, sizesOf}
-use Rattle.board.specs.Calls.{isFilling, chunkWrites, finishWrites}
-use Rattle.board.specs.History.{Call, noPart, partOf, outOf}
+use Rattle.board.specs.History.{Call, noPart, partOf}
 use Rattle.board.specs.declared.State.{State}
-use Rattle.board.proofs.States.{Tested, valid-state}
+use Rattle.board.proofs.Tests.{Tested}
 use Rattle.board.proofs.Effects.{Fills, feeds, finishes, cancels, filledTo}
 
 -- it has no part in a run
@@ -147,11 +149,11 @@ module _ (state : State) (memory : List ℕ) (t : Tested state (length memory)) 
   slot = state .store .fill .slot
 
   pub sized : Sized (sizesOf state)
-  sized = size-of (panelOf (fileOf state)) (good-panel (fileOf state) (valid-state state (t .valid) .good))
+  sized = size-of (panelOf (fileOf state)) (good-panel (fileOf state) (valid-state (t .valid) .good))
 
   -- the slot lies in the memory
   pub filled-inside : slot * (h * b) + h * b ≤ length memory
-  filled-inside = slot-fits b h (state .store .slots) (length memory) (t .exact) slot (valid-state state (t .valid) .fill-high)
+  filled-inside = slot-fits b h (state .store .slots) (length memory) (t .exact) slot (valid-state (t .valid) .fill-high)
 
   pub filled-length : length (slotBytes b h memory slot) ≡ h * b
   unfolding slotBytes
@@ -163,7 +165,7 @@ module _ (state : State) (memory : List ℕ) (t : Tested state (length memory)) 
     left = act (slotBytes b h memory slot) .1
 
     left-length : length left ≡ h * b
-    left-length = act-length kind sized (valid-state state (t .valid) .fill-good) (slotBytes b h memory slot) filled-length
+    left-length = act-length kind sized (valid-state (t .valid) .fill-good) (slotBytes b h memory slot) filled-length
 
     -- the memory stays as long as it is, the slot holds what is left, and every other slot what it held
     pub filled-memory : length (filledTo state memory call act writes .memory) ≡ length memory

@@ -1,9 +1,5 @@
--- Laws that the proofs of the functions cite: `Numbers` of numbers built case by case, `States` of valid states, `Tests` of what a call
--- has tested, `Lent` of lent slots, `Replies` of what each call replies by its number.
-pub mod Numbers
-pub mod States
+-- Laws that the proofs of the functions cite: `Tests` of what a call has tested, `Replies` of what each call replies by its number.
 pub mod Tests
-pub mod Lent
 pub mod Replies
 -- Demand 3 over every list of calls. `Effects` has what a call can do, and that each call is one of its effects, `Filled` what the calls
 -- of a fill leave; `Views` what the sums depend on in a store, `Lines` what polls put out, `Moves` that each effect is one move of crate balance, `Opening` what a list of calls

@@ -1,8 +1,8 @@
 -- Every effect of a call is one move of crate balance: refusals, waits, writes, uploads and fills push nothing, a line is the next draw, and done
 -- leaves the run at rest.
 -- Assumes nothing.
-use mathlib.Core.Path.{_≡_, refl, sym, ap, _∙_, subst}
-use mathlib.Core.Bool.{Bool, true, false, cond, false≢true}
+use mathlib.Core.Path.{_≡_, refl, sym, _∙_, subst}
+use mathlib.Core.Bool.{true, false, cond, false≢true}
 use mathlib.Core.List.{List, [], _∷_}
 use Prim.Native.Nat.{ℕ, _+_, _-_, _*_, _≤_}
 use lib.Dec.{eqb}
@@ -19,25 +19,24 @@ use Rattle.balance.proofs.Stores.{Dots, Place, line, allOut, nextPlace, View, M
 use Rattle.balance.proofs.Stores as moves
 use Rattle.summary.specs.declared.Summary.{Summary}
 use Rattle.run.specs.Due.{runFrames, dueOf}
-use Rattle.run.specs.Runs.{begun, waited, moved}
+use Rattle.run.specs.Runs.{waited, moved}
 use Rattle.run.specs.declared.Tick.{Tick}
 use Rattle.run.specs.declared.Passed.{Passed}
 use Rattle.run.specs.declared.Position.{Position}
 use Rattle.run.specs.declared.Position.the-variants.{Start, Line, Stop}
 use Rattle.run.specs.declared.Run.{Run}
 use Rattle.run.specs.declared.Phase.{Phase}
-use Rattle.run.specs.declared.Phase.the-variants.{Idle, Abandoned, Running}
+use Rattle.run.specs.declared.Phase.the-variants.{Abandoned, Running}
 use Rattle.run.proofs.Valid.{valid}
 use Rattle.poll.specs.Answers.{answerNumber, putOut}
 use Rattle.poll.specs.HandOut.{Outcome, outcome, stepBytes, lineBytes, sendWrite, sendLine, handStart, handStop, handOut}
 use Rattle.poll.specs.declared.Answer.{Answer}
 use Rattle.poll.specs.declared.Answer.the-variants as answer
-use Rattle.board.specs.State.{fileOf, sizesOf, withPhase, withSummaries, storeBytes}
-use Rattle.board.specs.Calls.{isRunning, isAbandoned, inState}
-use Rattle.board.specs.History.{Call, start, poll, abandon, summary, Part, starts, polls, abandons, noPart, partOf, Given, number, answered, summed, isAccepted, isDoneAnswer, isDone, abandoned, underWay, Seen, afterDone, afterCall, Called, ofPoll}
+use Rattle.store.specs.Refusals.{isRunning, isAbandoned}
+use Rattle.store.proofs.Conditions.{valid-state, run-of}
+use Rattle.board.specs.State.{fileOf, sizesOf, withSummaries}
+use Rattle.board.specs.History.{Call, start, abandon, summary, Part, starts, polls, abandons, noPart, partOf, Given, number, answered, summed, isAccepted, isDoneAnswer, abandoned, underWay, Seen, afterDone, afterCall, Called}
 use Rattle.board.specs.declared.State.{State}
-use Rattle.board.proofs.States.{Tested, valid-state, run-of}
-use Rattle.board.proofs.Tests.{Uploadable, Startable}
 use Rattle.board.proofs.Effects as effects
 use Rattle.board.proofs.Effects.{Effect, At, filledTo, polledTo}
 use Rattle.board.proofs.Filled.{fills-apart, filled-low, filled-others}
@@ -203,15 +202,15 @@ module _ (state : State) (memory : List ℕ) (seen : Seen) (view : View)
     waiting : (ms : ℕ) {v : View} → Sees b₁ h₁ memory (Running run) v
         → Moved (fileOf state) memory seen v (outcome (answer.Wait ms) (Running (waited run tick moment)) memory out)
     waiting ms runs =
-        let good = valid-state state (at .tests .valid) .good in
+        let good = valid-state (at .tests .valid) .good in
         early (fileOf state) run tick memory out seen good (running .stands) (agree .shows) moment ms
 
     handing : {v : View} → Sees b₁ h₁ memory (Running run) v
         → Moved (fileOf state) memory seen v (handOut (fileOf state) run tick moment memory out (run .next))
     handing runs =
         let t = at .tests in
-        let good = valid-state state (t .valid) .good in
-        let high = valid (fileOf state) (state .store .slots) run (run-of state run (t .valid) (at .runs)) .high in
+        let good = valid-state (t .valid) .good in
+        let high = valid (fileOf state) (state .store .slots) run (run-of (valid-state (t .valid)) (at .runs)) .high in
         hands-out (fileOf state) run tick memory out seen good (running .stands) (agree .shows) moment (state .store .slots) (t .exact) high
         (run .next)
 
@@ -233,7 +232,7 @@ module _ (state : State) (memory : List ℕ) (seen : Seen) (view : View)
             rw (fills-apart kind)
             (no-move (fileOf state)
             (agree-other b₁ h₁ (state .store .phase) memory memory′ (state .store .fill .slot) (filled-low (state .store .fill) is)
-            (valid-state state (t .valid) .fill-apart) (filled-others state memory t kind) agree));
+            (valid-state (t .valid) .fill-apart) (filled-others state memory t kind) agree));
       }
   one-move (effects.starts slot tick t may) =
       record {

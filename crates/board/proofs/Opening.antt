@@ -19,8 +19,10 @@ use Rattle.panel.specs.Dots.{bit, dot}
 use Rattle.settings.specs.Settings.{settingsGood, shapeIn, longestFile}
 use Rattle.picture.specs.Slots.{slotBytes, slotPicture}
 use Rattle.picture.proofs.Slots.{blank-picture}
-use Rattle.board.specs.State.{fileOf, storeBytes, emptyState, openedState}
-use Rattle.board.specs.Calls.{reply, opening, openCases}
+use Rattle.slots.specs.Slots.{storeBytes}
+use Rattle.store.specs.Refusals.{openCases}
+use Rattle.board.specs.State.{fileOf, emptyState, openedState}
+use Rattle.board.specs.Calls.{reply, opening}
 use Rattle.board.specs.declared.Reply.{Reply}
 
 -- ---- the call

@@ -1,12 +1,11 @@
 -- What each call replies, by its number.
 -- Assumes nothing.
 use mathlib.Core.Path.{_≡_, refl, sym, ap, _∙_}
-use mathlib.Core.Bool.{Bool, true, false, not}
+use mathlib.Core.Bool.{Bool, true, false}
 use mathlib.Core.List.{List, [], _∷_, _++_}
 use Prim.Native.Nat.{ℕ, _-_, _≤_, _<_}
-use native.Mathlib.Nat.{zero-div}
 use native.Mathlib.Omega.{arith}
-use borrow.Author.Tests.{ltb-true, le-leb, lt-leb, eq-eqb, ne-eqb, eqb-true, not-false}
+use borrow.Author.Tests.{ltb-true, ne-eqb, not-false}
 use lib.Dec.{eqb, ltb}
 use lib.ListN.{length, getD, replicate, length-replicate}
 use Rattle.lists.specs.Lists.{overlayAt}
@@ -14,12 +13,9 @@ use Rattle.lists.specs.Rules.{Case, case, firstOf}
 use Rattle.lists.proofs.Rules.{None, past, and-left, and-right, numbered, taken, some-number, none-of, some-append, none-append}
 use Rattle.lists.proofs.Lists.{overlay-whole}
 use Rattle.panel.specs.declared.Shape.{Shape}
-use Rattle.settings.specs.Settings.{settingsGood, shapeIn, longestFile}
-use Rattle.settings.specs.declared.Plan.{Plan}
+use Rattle.settings.specs.Settings.{settingsGood, longestFile}
 use Rattle.settings.proofs.Accepted.{good-short}
 use Rattle.picture.specs.Regions.{regionCases}
-use Rattle.bitmap.specs.Header.{headerLength, fileLength}
-use Rattle.bitmap.specs.Bitmap.{bitmapGood}
 use Rattle.summary.specs.Summaries.{emptySummary}
 use Rattle.summary.specs.declared.Summary.{Summary}
 use Rattle.run.specs.Runs.{begun}
@@ -31,41 +27,23 @@ use Rattle.poll.specs.HandOut.{outcome}
 use Rattle.poll.specs.declared.Answer.{Answer}
 use Rattle.poll.specs.declared.Answer.the-variants.{Refused}
 use Rattle.poll.specs.declared.Handed.{Handed}
-use Rattle.fill.specs.Fills.{begunFill, rowsCome}
+use Rattle.fill.specs.Fills.{begunFill}
 use Rattle.fill.specs.Feeding.{feeding, finishing, cancelling}
 use Rattle.fill.specs.declared.Fill.{Fill}
 use Rattle.fill.specs.declared.Fed.{Fed}
-use Rattle.board.specs.State.{sizesOf, setPhase, setFill, setSummaries, withStore, withPhase, withFill, storeBytes, storeCases, emptyState, openedState}
-use Rattle.board.specs.Calls.{reply, openCases, opening, uploadCases, regionDrawn, bitmapCases, bitmapDrawn, countedIn, drawnTo, regionUpload, bitmapUpload, beginCases, fillBegin, fillCases, onSlot, fedReply, onFill, chunkWrites, finishWrites, fillFeed, fillFinish, fillCancel, startCases, starting, abandonCases, abandoning, polling, summariesAfter, inState, pollPhase, polled, writeCases, bitmapWritten, bitmapWrite, summaryCases, summarised, slotSummary}
-use Rattle.board.specs.Facts.{bitmapPlaced, regionPlaced, drawnReply, leftBy}
+use Rattle.slots.specs.Slots.{regionDrawn, bitmapCases, bitmapDrawn, countedIn, onSlot, chunkWrites, finishWrites, bitmapWritten}
+use Rattle.slots.specs.Facts.{bitmapPlaced, regionPlaced}
+use Rattle.store.specs.Store.{setPhase, setFill, setSummaries}
+use Rattle.store.specs.Refusals.{openCases}
+use Rattle.store.specs.declared.Store.{Store}
+use Rattle.board.specs.State.{sizesOf, withStore, withPhase, withFill, storeCases, emptyState, openedState}
+use Rattle.board.specs.Calls.{reply, opening, uploadCases, drawnTo, regionUpload, bitmapUpload, beginCases, fillBegin, fillCases, fedReply, onFill, fillFeed, fillFinish, fillCancel, startCases, starting, abandonCases, abandoning, polling, summariesAfter, inState, pollPhase, polled, writeCases, bitmapWrite, summaryCases, summarised, slotSummary}
+use Rattle.board.specs.Facts.{drawnReply, leftBy}
 use Rattle.board.specs.declared.State.{State}
-use Rattle.board.specs.declared.Store.{Store}
 use Rattle.board.specs.declared.Reply.{Reply}
 use Rattle.board.specs.declared.runs.Left.{Left}
 
 -- ---- opening
-
-module _ (file : List ℕ) (n m : ℕ) where
-  pub open-2 : settingsGood file ≡ false → 2 ≡ firstOf (openCases file n m) (λ n. n) 0
-  open-2 e = rw e
-
-  module _ (good : settingsGood file ≡ true) where
-    pub open-low : n < 1 → 1 ≡ firstOf (openCases file n m) (λ n. n) 0
-    open-low l = rw (good, lt-leb 1 n l)
-
-    pub open-high : 1 ≤ n → 7 < n → 1 ≡ firstOf (openCases file n m) (λ n. n) 0
-    open-high l h = rw (good, le-leb 1 n l, lt-leb n 7 h)
-
-    -- k is the length that a store of slots 0 to n has
-    module _ (l : 1 ≤ n) (h : n ≤ 7) {shape : Shape} (sizes : shape ≡ shapeIn file) {k : ℕ} (bytes : k ≡ storeBytes shape n) where
-      is : k ≡ storeBytes (shapeIn file) n
-      is = bytes ∙ ap (λ (z : Shape). storeBytes z n) sizes
-
-      pub open-room : (m ≡ k → ⊥) → 1 ≡ firstOf (openCases file n m) (λ n. n) 0
-      open-room d = rw (good, le-leb 1 n l, le-leb n 7 h, ← is, ne-eqb m k d)
-
-      pub open-0 : m ≡ k → 0 ≡ firstOf (openCases file n m) (λ n. n) 0
-      open-0 e = rw (good, le-leb 1 n l, le-leb n 7 h, ← is, eq-eqb m k e)
 
 module _ (file : List ℕ) (n : ℕ) (memory : List ℕ) {r : ℕ} (is : r ≡ firstOf (openCases file n (length memory)) (λ n. n) 0) where
   pub open-refused : {state : State} → state ≡ emptyState → (r ≡ 0 → ⊥) → (reply r state, memory) ≡ opening file n memory
@@ -95,35 +73,7 @@ module _ (file : List ℕ) (n : ℕ) (memory : List ℕ) {r : ℕ} (is : r ≡ f
         (taken (openCases file n (length memory)) (λ number. (reply number emptyState, memory))
         (reply 0 (openedState file n), white) free))
 
--- ---- uploads: what is put into a slot, and the calls
-
-module _ (shape : Shape) (memory : List ℕ) (slot : ℕ) (file : List ℕ) where
-  pub bitmap-4 : bitmapGood (shape .bytes) (shape .rows) (shape .stride) file ≡ false → (4, memory) ≡ bitmapPlaced shape memory slot file
-  bitmap-4 e = rw e
-
-  module _ (good : bitmapGood (shape .bytes) (shape .rows) (shape .stride) file ≡ true) where
-    pub bitmap-room : fileLength (shape .rows) (shape .stride) ≤ length file
-    unfolding bitmapGood
-    bitmap-room =
-        let e : length file ≡ fileLength (shape .rows) (shape .stride) = eqb-true _ _ (and-left _ _ good) in
-        omega arith
-
-    pub bitmap-0 : {after : List ℕ} → after ≡ bitmapDrawn shape memory slot file → (0, after) ≡ bitmapPlaced shape memory slot file
-    bitmap-0 {after} e = ap (λ (l : List ℕ). (0, l)) e ∙ rw good
-
-module _ (shape : Shape) (memory : List ℕ) (slot x y width height : ℕ) (payload : List ℕ) {r : ℕ}
-    (is : r ≡ firstOf (regionCases (shape .bytes) (shape .rows) x y width height payload) (λ n. n) 0) where
-  abbrev own : List Case
-  own = regionCases (shape .bytes) (shape .rows) x y width height payload
-
-  pub region-refused : (r ≡ 0 → ⊥) → (r, memory) ≡ regionPlaced shape memory slot x y width height payload
-  region-refused = some-number own (λ n. (n, memory)) (0, regionDrawn shape memory slot x y width height payload) is
-
-  pub region-accepted : r ≡ 0 → {after : List ℕ} → after ≡ regionDrawn shape memory slot x y width height payload
-      → (0, after) ≡ regionPlaced shape memory slot x y width height payload
-  region-accepted z {after} e =
-      ap (λ (l : List ℕ). (0, l)) e
-      ∙ sym (taken own (λ n. (n, memory)) (0, regionDrawn shape memory slot x y width height payload) (none-of own refl is z))
+-- ---- uploads
 
 -- one more thing done to every answer, where it is known what is done to a refusal
 first-numbered : {A B : Type 0} (g : A → B) (cs : List Case) → numbered cs ≡ true → (refused : ℕ → A) (refused′ : ℕ → B) (accepted : A)
@@ -214,18 +164,6 @@ module _ (state : State) (m slot : ℕ) {r : ℕ} (is : r ≡ firstOf (beginCase
       (sym
       (taken (beginCases state m slot) (λ number. reply number state) (reply 0 (withFill state (begunFill slot)))
       (none-of (beginCases state m slot) refl is z)))
-
--- whether a chunk wrote the slot
-pub rows-none : (s came : ℕ) → came < headerLength → 0 ≡ rowsCome s came
-rows-none s came l = let e : came - headerLength ≡ 0 = omega arith in sym (rw e (zero-div s))
-
-module _ (s : ℕ) (before : Fill) (fed : Fed) where
-  pub chunk-refused : (fed .number ≡ 0 → ⊥) → true ≡ chunkWrites s before fed
-  chunk-refused d = rw (ne-eqb (fed .number) 0 d)
-
-  pub chunk-rows : fed .number ≡ 0 → {now old : ℕ} → now ≡ rowsCome s (fed .fill .came) → old ≡ rowsCome s (before .came)
-      → not (eqb now old) ≡ chunkWrites s before fed
-  chunk-rows z e f = rw (z, e, f)
 
 -- the reply to what was done to the slot being filled: where it was not written, and where it was
 module _ (shape : Shape) (state : State) (memory : List ℕ) (fed : Fed) {filled : Store} (e : filled ≡ setFill (state .store) (fed .fill)) where

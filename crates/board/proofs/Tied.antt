@@ -13,7 +13,7 @@ use Rattle.settings.specs.Settings.{rowBytesIn, rowsIn}
 use Rattle.run.specs.Due.{runFrames}
 use Rattle.run.specs.declared.Tick.{Tick}
 use Rattle.board.specs.History as H
-use Rattle.board.specs.History.{Call, Event, Called, callOn, ofReply, ofPoll, ofSummary, eventsOf, memoryAfter}
+use Rattle.board.specs.History.{Call, Event, callOn, ofReply, ofPoll, ofSummary, eventsOf, memoryAfter}
 use Rattle.board.specs.Calls.{polling}
 use Rattle.board.specs.Chains.{Parts, Chain, finished, more}
 use Rattle.board.specs.Balance.{Balanced}

@@ -20,7 +20,8 @@ use Rattle.run.specs.declared.Position.the-variants.{Start, Line, Stop}
 use Rattle.run.specs.declared.Run.{Run}
 use Rattle.run.specs.declared.Phase.{Phase}
 use Rattle.run.specs.declared.Phase.the-variants.{Idle, Abandoned, Running}
-use Rattle.board.specs.State.{fileOf, isRunsSlot}
+use Rattle.store.specs.Conditions.{isRunsSlot}
+use Rattle.board.specs.State.{fileOf}
 use Rattle.board.specs.History.{Called, putBy, Standing, atRest, underWay, abandoned, Seen, afterEvent}
 
 -- ---- where the lines of a run stand

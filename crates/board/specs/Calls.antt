@@ -1,25 +1,19 @@
 -- Document 01, "Store and bitmaps", "The run and its time" and "Numbers given back", and the requests 2026-02, "Bitmaps over a slow
 -- cable", and 2026-05, "A summary beside each slot": what each call does, on any input. A refusal is its number and the state as given, and
--- every lent byte stays; but 4 of a fill ends the fill. The cases of a call are its refusals in order: the store's 13 and 1, then its own.
+-- every lent byte stays; but 4 of a fill ends the fill. The cases of a call are its refusals in order: 13 and 1, then its own
+-- (crate store, specs/Refusals.antt).
 -- Assumes nothing.
 use Prim.Native.Nat.{ℕ}
-use mathlib.Core.Bool.{Bool, true, false, cond, not, _&&_, _||_}
+use mathlib.Core.Bool.{Bool, true, cond, _&&_, _||_}
 use mathlib.Core.List.{List, [], _∷_, _++_}
-use lib.Dec.{eqb, leb, ltb}
 use lib.ListN.{length, getD, set, replicate}
-use Rattle.lists.specs.Lists.{overlay}
-use Rattle.lists.specs.Rules.{Case, case, firstOf}
+use Rattle.lists.specs.Rules.{Case, firstOf}
 use Rattle.panel.specs.declared.Shape.{Shape}
-use Rattle.settings.specs.Settings.{settingsGood, shapeIn}
-use Rattle.picture.specs.Slots.{slotBytes, withBytes, slotPicture, withPicture}
-use Rattle.picture.specs.Regions.{regionCases, withRegion}
-use Rattle.bitmap.specs.Header.{fileLength}
-use Rattle.bitmap.specs.Bitmap.{bitmapGood, readPicture, writtenFile}
-use Rattle.fill.specs.Fills.{begunFill, rowsCome}
+use Rattle.picture.specs.Regions.{regionCases}
+use Rattle.fill.specs.Fills.{begunFill}
 use Rattle.fill.specs.Feeding.{feeding, finishing, cancelling}
-use Rattle.fill.specs.declared.Fill.{Fill}
 use Rattle.fill.specs.declared.Fed.{Fed}
-use Rattle.summary.specs.Summaries.{summaryOf, emptySummary}
+use Rattle.summary.specs.Summaries.{emptySummary}
 use Rattle.summary.specs.declared.Summary.{Summary}
 use Rattle.run.specs.Runs.{begun}
 use Rattle.run.specs.declared.Tick.{Tick}
@@ -30,43 +24,17 @@ use Rattle.poll.specs.declared.Answer.{Answer}
 use Rattle.poll.specs.declared.Answer.the-variants as answer
 use Rattle.run.specs.declared.Phase.{Phase}
 use Rattle.run.specs.declared.Phase.the-variants.{Idle, Abandoned, Running}
-use Rattle.board.specs.State.{fileOf, sizesOf, withPhase, withFill, withSummaries, isRunsSlot, storeBytes, stateCases, storeCases, emptyState, openedState}
+use Rattle.slots.specs.Slots.{bitmapCases, regionDrawn, bitmapDrawn, bitmapWritten, onSlot, chunkWrites, finishWrites, countedIn}
+use Rattle.board.specs.State.{fileOf, sizesOf, withPhase, withFill, withSummaries, stateCases, storeCases, emptyState, openedState}
 use Rattle.board.specs.declared.State.{State}
-use Rattle.board.specs.declared.Store.{Store}
 use Rattle.board.specs.declared.Reply.{Reply}
 use Rattle.board.specs.declared.Summarised.{Summarised}
+use Rattle.store.specs.Refusals.{openCases, uploadOwn, beginOwn, fillOwn, startOwn, abandonOwn, writeOwn, summaryOwn}
 
 abbrev pub reply : (number : ℕ) → State → Reply
 reply number state = record { number = number; state = state }
 
--- a slot that takes uploads and starts: 1 to n
-abbrev pub takesPictures : (slots slot : ℕ) → Bool
-takesPictures slots slot = leb 1 slot && leb slot slots
-
-abbrev pub isRunning : Phase → Bool
-isRunning Idle = false
-isRunning Abandoned = false
-isRunning (Running run) = true
-
-abbrev pub isAbandoned : Phase → Bool
-isAbandoned Idle = false
-isAbandoned Abandoned = true
-isAbandoned (Running run) = false
-
--- a slot is the one being filled; and there is one: with none begun the fill's slot is 0
-abbrev pub isFilled : Fill → (slot : ℕ) → Bool
-isFilled fill slot = eqb (fill .slot) slot
-
-abbrev pub isFilling : Fill → Bool
-isFilling fill = not (eqb (fill .slot) 0)
-
 -- ---- opening: 2, 1; else all slots white
-
-abbrev pub openCases : (file : List ℕ) (n memoryLength : ℕ) → List Case
-openCases file n memoryLength =
-    case (not (settingsGood file)) 2
-    ∷ case (not (leb 1 n && leb n 7 && eqb memoryLength (storeBytes (shapeIn file) n))) 1
-    ∷ []
 
 unfoldable pub opening : (file : List ℕ) (n : ℕ) (memory : List ℕ) → Reply × List ℕ
 opening file n memory =
@@ -76,35 +44,13 @@ opening file n memory =
 
 -- ---- a fresh count of a slot, left at its place
 
-abbrev pub countedIn : (shape : Shape) (memory : List ℕ) (slot : ℕ) → List Summary → List Summary
-countedIn shape memory slot summaries =
-    set summaries slot (summaryOf (shape .bytes) (shape .rows) (slotPicture (shape .bytes) (shape .rows) memory slot))
-
 abbrev pub counted : (shape : Shape) → State → (memory : List ℕ) (slot : ℕ) → State
 counted shape state memory slot = withSummaries state (countedIn shape memory slot (state .store .summaries))
 
 -- ---- uploads: 13, 1, 3, 7, 15, then 5, 6, or 4; else a fresh count of the slot
 
-abbrev pub uploadOwn : (store : Store) (slot : ℕ) → List Case
-uploadOwn store slot =
-    case (not (takesPictures (store .slots) slot)) 3
-    ∷ case (isRunsSlot (store .phase) slot) 7
-    ∷ case (isFilled (store .fill) slot) 15
-    ∷ []
-
 abbrev pub uploadCases : (state : State) (memoryLength slot : ℕ) → List Case
 uploadCases state memoryLength slot = storeCases state memoryLength ++ uploadOwn (state .store) slot
-
-abbrev pub bitmapCases : (shape : Shape) (file : List ℕ) → List Case
-bitmapCases shape file = case (not (bitmapGood (shape .bytes) (shape .rows) (shape .stride) file)) 4 ∷ []
-
--- the memory with the dots of a region painted, and with a slot that holds the picture of a bitmap file
-abbrev pub regionDrawn : (shape : Shape) (memory : List ℕ) (slot x y width height : ℕ) (payload : List ℕ) → List ℕ
-regionDrawn shape = withRegion (shape .bytes) (shape .rows)
-
-abbrev pub bitmapDrawn : (shape : Shape) (memory : List ℕ) (slot : ℕ) (file : List ℕ) → List ℕ
-bitmapDrawn shape memory slot file =
-    withPicture (shape .bytes) (shape .rows) memory slot (readPicture (shape .bytes) (shape .rows) (shape .stride) file)
 
 -- a picture was drawn into a slot, and the memory is this afterwards
 abbrev pub drawnTo : State → (slot : ℕ) (after : List ℕ) → Reply × List ℕ
@@ -126,9 +72,6 @@ bitmapUpload state memory slot file =
 
 -- ---- fills: begin 13, 1, 3, 7, 15, 16; feed, finish and cancel 13, 1, 17, and the first two then 4
 
-abbrev pub beginOwn : (store : Store) (slot : ℕ) → List Case
-beginOwn store slot = uploadOwn store slot ++ (case (isFilling (store .fill)) 16 ∷ [])
-
 abbrev pub beginCases : (state : State) (memoryLength slot : ℕ) → List Case
 beginCases state memoryLength slot = storeCases state memoryLength ++ beginOwn (state .store) slot
 
@@ -137,17 +80,8 @@ unfoldable pub fillBegin : (state : State) (memoryLength slot : ℕ) → Reply
 fillBegin state memoryLength slot =
     firstOf (beginCases state memoryLength slot) (λ number. reply number state) (reply 0 (withFill state (begunFill slot)))
 
-abbrev pub fillOwn : (store : Store) → List Case
-fillOwn store = case (not (isFilling (store .fill))) 17 ∷ []
-
 abbrev pub fillCases : (state : State) (memoryLength : ℕ) → List Case
 fillCases state memoryLength = storeCases state memoryLength ++ fillOwn (state .store)
-
--- what is done to the bytes of a slot: what it gives back, and the memory with the bytes that it leaves in the slot
-abbrev pub onSlot : (shape : Shape) (memory : List ℕ) (slot : ℕ) (act : List ℕ → Fed × List ℕ) → Fed × List ℕ
-onSlot shape memory slot act =
-    let r = act (slotBytes (shape .bytes) (shape .rows) memory slot) in
-    (r .0, withBytes (shape .bytes) (shape .rows) memory slot (r .1))
 
 -- the reply to it: its number, and the state with the fill that it leaves; and where the slot was written, with a fresh count of it
 abbrev pub fedReply : (shape : Shape) → State → (wrote : Bool) (memory : List ℕ) → Fed → Reply
@@ -164,14 +98,6 @@ onFill state memory act writes =
     (let r = onSlot (sizesOf state) memory (state .store .fill .slot) act in
     (fedReply (sizesOf state) state (writes (r .0)) (r .1) (r .0), r .1))
 
--- a chunk wrote the slot where it earned 4, which makes the slot white, or where it made rows whole
-abbrev pub chunkWrites : (s : ℕ) (before : Fill) → Fed → Bool
-chunkWrites s before fed = not (eqb (fed .number) 0) || not (eqb (rowsCome s (fed .fill .came)) (rowsCome s (before .came)))
-
--- finish wrote it where it earned 4; a cancel always does
-abbrev pub finishWrites : Fed → Bool
-finishWrites fed = not (eqb (fed .number) 0)
-
 unfoldable pub fillFeed : (state : State) (memory chunk : List ℕ) → Reply × List ℕ
 fillFeed state memory chunk =
     onFill state memory (feeding (sizesOf state .bytes) (sizesOf state .rows) (sizesOf state .stride) (state .store .fill) chunk)
@@ -186,14 +112,6 @@ fillCancel state memory = onFill state memory (λ raw. cancelling (sizesOf state
 
 -- ---- start: 13, 1, 8, 12, 3, 15
 
-abbrev pub startOwn : (store : Store) (slot : ℕ) → List Case
-startOwn store slot =
-    case (isRunning (store .phase)) 8
-    ∷ case (isAbandoned (store .phase)) 12
-    ∷ case (not (takesPictures (store .slots) slot)) 3
-    ∷ case (isFilled (store .fill) slot) 15
-    ∷ []
-
 abbrev pub startCases : (state : State) (memoryLength slot : ℕ) → List Case
 startCases state memoryLength slot = storeCases state memoryLength ++ startOwn (state .store) slot
 
@@ -204,9 +122,6 @@ starting state memoryLength slot tick =
     (reply 0 (withPhase state (Running (begun slot tick))))
 
 -- ---- abandon: 13, 1, 9
-
-abbrev pub abandonOwn : (store : Store) → List Case
-abandonOwn store = case (not (isRunning (store .phase))) 9 ∷ []
 
 abbrev pub abandonCases : (state : State) (memoryLength : ℕ) → List Case
 abandonCases state memoryLength = storeCases state memoryLength ++ abandonOwn (state .store)
@@ -267,17 +182,8 @@ polled state tick memory out =
 
 -- ---- the writer: 13, 1, 3, 11
 
-abbrev pub writeOwn : (store : Store) (shape : Shape) (slot outLength : ℕ) → List Case
-writeOwn store shape slot outLength =
-    case (ltb (store .slots) slot) 3 ∷ case (ltb outLength (fileLength (shape .rows) (shape .stride))) 11 ∷ []
-
 abbrev pub writeCases : (state : State) (memoryLength slot outLength : ℕ) → List Case
 writeCases state memoryLength slot outLength = storeCases state memoryLength ++ writeOwn (state .store) (sizesOf state) slot outLength
-
--- the output with the bitmap file of a slot's picture at its front
-abbrev pub bitmapWritten : (shape : Shape) (memory : List ℕ) (slot : ℕ) (out : List ℕ) → List ℕ
-bitmapWritten shape memory slot =
-    overlay (writtenFile (shape .bytes) (shape .rows) (shape .stride) (slotPicture (shape .bytes) (shape .rows) memory slot))
 
 unfoldable pub bitmapWrite : (state : State) (memory : List ℕ) (slot : ℕ) (out : List ℕ) → Reply × List ℕ
 bitmapWrite state memory slot out =
@@ -286,9 +192,6 @@ bitmapWrite state memory slot out =
     (reply 0 state, bitmapWritten (sizesOf state) memory slot out)
 
 -- ---- the summary of a slot, slot 0 too: 13, 3
-
-abbrev pub summaryOwn : (store : Store) (slot : ℕ) → List Case
-summaryOwn store slot = case (ltb (store .slots) slot) 3 ∷ []
 
 abbrev pub summaryCases : (state : State) (slot : ℕ) → List Case
 summaryCases state slot = stateCases state ++ summaryOwn (state .store) slot

@@ -4,15 +4,9 @@ ghost use mathlib.Core.Path.{_≡_};
 ghost use Prim.Native.Nat.{_≤_};
 ghost use lib.ListN.{length};
 ghost use Rattle.settings.specs.Settings.{longestFile};
-ghost use Rattle.board.specs.State.{
-  setPhase,
-  setFill,
-  setSummaries,
-  withStore,
-  storeCases,
-  emptyState,
-  openedState,
-};
+ghost use Rattle.slots.specs.Facts.{SlotOf};
+ghost use Rattle.store.specs.Facts.{Found};
+ghost use Rattle.board.specs.State.{fileOf, withStore, storeCases, emptyState, openedState};
 ghost use Rattle.board.specs.Calls.{
   opening,
   uploadCases,
@@ -32,34 +26,21 @@ ghost use Rattle.board.specs.Calls.{
   bitmapWrite,
   slotSummary,
 };
-ghost use Rattle.board.specs.Facts.{Found, SlotOf, drawnReply};
+ghost use Rattle.board.specs.Facts.{drawnReply};
 
-mod checks;
-mod fills;
-mod refusals;
 mod runs;
-mod slots;
-mod summaries;
-mod uploads;
 
-use checks::Checked;
 use fill::Fed;
-use fill::Fill;
 use panel::Shape;
 use poll::Answer;
 use run::Phase;
 use run::Tick;
 use settings::Settings;
+use store::Store;
+use store::checks;
+use store::checks::Checked;
+use store::refusals;
 use summary::Summary;
-
-// What changes from call to call: the number n of the last slot, where the store stands, the bitmap file that comes in chunks, and the
-// summaries of slots 0 to n, in eight places.
-pub struct Store {
-    pub slots: u32,
-    pub phase: Phase,
-    pub fill: Fill,
-    pub summaries: [Summary; 8],
-}
 
 // The state of a store: its settings file, and what changes. docs/STATE.md has the conditions that it keeps.
 pub struct State {
@@ -90,17 +71,9 @@ pub struct Summarised {
 pub fn empty_state() -> State
     ensures { λ r. ⌜ r ≡ emptyState ⌝ }
 {
-    let settings = settings::no_settings();
-    let fill = fill::empty();
-    let summaries = summary::empty_summaries();
     State {
-        settings,
-        store: Store {
-            slots: 0,
-            phase: Phase::Idle,
-            fill,
-            summaries,
-        },
+        settings: settings::no_settings(),
+        store: store::new_store(0),
     }
 }
 
@@ -109,17 +82,9 @@ fn opened_state(file: &[u8], n: u32) -> State
     requires { ⌜ length (now file) ≤ longestFile ⌝ }
     ensures { λ r. ⌜ r ≡ openedState (now (file .entry)) n ⌝ }
 {
-    let settings = settings::keep(file);
-    let fill = fill::empty();
-    let summaries = summary::empty_summaries();
     State {
-        settings,
-        store: Store {
-            slots: n,
-            phase: Phase::Idle,
-            fill,
-            summaries,
-        },
+        settings: settings::keep(file),
+        store: store::new_store(n),
     }
 }
 
@@ -143,50 +108,6 @@ pub fn open(file: &[u8], n: u32, memory: &mut [u8]) -> Reply
     }
 }
 
-impl Store {
-    // The store with another phase.
-    fn with_phase(self, phase: Phase) -> Store
-        ensures { λ r. ⌜ r ≡ setPhase self phase ⌝ }
-    {
-        let fill = self.fill;
-        let summaries = self.summaries;
-        Store {
-            slots: self.slots,
-            phase,
-            fill,
-            summaries,
-        }
-    }
-
-    // The store with another fill.
-    fn with_fill(self, fill: Fill) -> Store
-        ensures { λ r. ⌜ r ≡ setFill self fill ⌝ }
-    {
-        let phase = self.phase;
-        let summaries = self.summaries;
-        Store {
-            slots: self.slots,
-            phase,
-            fill,
-            summaries,
-        }
-    }
-
-    // The store with other summaries.
-    fn with_summaries(self, summaries: [Summary; 8]) -> Store
-        ensures { λ r. ⌜ r ≡ setSummaries self summaries ⌝ }
-    {
-        let phase = self.phase;
-        let fill = self.fill;
-        Store {
-            slots: self.slots,
-            phase,
-            fill,
-            summaries,
-        }
-    }
-}
-
 impl State {
     // The state with another store.
     fn with_store(self, store: Store) -> State
@@ -199,7 +120,7 @@ impl State {
 
     // 13 or 1.
     fn check(self, memory_len: usize) -> Checked
-        ensures { λ r. ⌜ Found self (storeCases self «memory_len») r ⌝ }
+        ensures { λ r. ⌜ Found (fileOf self) (storeCases self «memory_len») r ⌝ }
     {
         let store = self.store;
         checks::check_store(&self.settings.file, self.settings.len, store, memory_len)
@@ -207,7 +128,7 @@ impl State {
 
     // 13, 1, 3, 7 or 15.
     fn check_upload(self, memory_len: usize, slot: u32) -> Checked
-        ensures { λ r. ⌜ Found self (uploadCases self «memory_len» slot) r ⌝ }
+        ensures { λ r. ⌜ Found (fileOf self) (uploadCases self «memory_len» slot) r ⌝ }
     {
         let checked = self.check(memory_len);
         let plan = checked.plan;
@@ -218,7 +139,7 @@ impl State {
 
     // 13, 1 or 17.
     fn check_fill(self, memory_len: usize) -> Checked
-        ensures { λ r. ⌜ Found self (fillCases self «memory_len») r ⌝ }
+        ensures { λ r. ⌜ Found (fileOf self) (fillCases self «memory_len») r ⌝ }
     {
         let checked = self.check(memory_len);
         let plan = checked.plan;
@@ -229,7 +150,7 @@ impl State {
 
     // 13, 1, 3 or 11.
     fn check_write(self, memory_len: usize, slot: u32, out_len: usize) -> Checked
-        ensures { λ r. ⌜ Found self (writeCases self «memory_len» slot «out_len») r ⌝ }
+        ensures { λ r. ⌜ Found (fileOf self) (writeCases self «memory_len» slot «out_len») r ⌝ }
     {
         let checked = self.check(memory_len);
         let plan = checked.plan;
@@ -256,7 +177,7 @@ impl State {
         }
         let store = self.store;
         let summaries = store.summaries;
-        let counted = summaries::count_slot(shape, memory, slot, summaries);
+        let counted = slots::count_slot(shape, memory, slot, summaries);
         Reply {
             number: 0,
             state: self.with_store(store.with_summaries(counted)),
@@ -288,7 +209,7 @@ impl State {
             };
         }
         let shape = plan.shape;
-        let number = uploads::place_region(shape, memory, slot, x, y, width, height, payload);
+        let number = slots::place_region(shape, memory, slot, x, y, width, height, payload);
         self.reply_drawn(number, shape, memory, slot)
     }
 
@@ -306,7 +227,7 @@ impl State {
             };
         }
         let shape = plan.shape;
-        let number = uploads::place_bitmap(shape, memory, slot, bitmap);
+        let number = slots::place_bitmap(shape, memory, slot, bitmap);
         self.reply_drawn(number, shape, memory, slot)
     }
 
@@ -344,7 +265,7 @@ impl State {
             };
         }
         let summaries = store.summaries;
-        let fresh = summaries::count_slot(shape, memory, before.fill.slot, summaries);
+        let fresh = slots::count_slot(shape, memory, before.fill.slot, summaries);
         Reply {
             number: fed.number,
             state: self.with_store(store.with_summaries(fresh)),
@@ -367,8 +288,8 @@ impl State {
         }
         let shape = plan.shape;
         let fill = self.store.fill;
-        let fed = fills::feed_slot(shape, memory, fill, chunk);
-        let wrote = fills::chunk_wrote(shape, fill, fed);
+        let fed = slots::feed_slot(shape, memory, fill, chunk);
+        let wrote = slots::chunk_wrote(shape, fill, fed);
         self.reply_fed(wrote, shape, memory, fed)
     }
 
@@ -388,7 +309,7 @@ impl State {
         }
         let shape = plan.shape;
         let fill = self.store.fill;
-        let fed = fills::finish_slot(shape, memory, fill);
+        let fed = slots::finish_slot(shape, memory, fill);
         self.reply_fed(fed.number != 0, shape, memory, fed)
     }
 
@@ -407,7 +328,7 @@ impl State {
         }
         let shape = plan.shape;
         let fill = self.store.fill;
-        let fed = fills::cancel_slot(shape, memory, fill);
+        let fed = slots::cancel_slot(shape, memory, fill);
         self.reply_fed(true, shape, memory, fed)
     }
 

@@ -1,20 +1,37 @@
 // Polls of the run under way.
 ghost use mathlib.Core.Path.{_≡_};
 ghost use Prim.Native.Nat.{_≤_};
-ghost use Rattle.board.specs.Calls.{polling, polled};
+ghost use Rattle.store.specs.Store.{setSummaries};
+ghost use Rattle.board.specs.Calls.{summariesAfter, polling, polled};
 ghost use Rattle.board.specs.Facts.{stateOf, leftBy};
-use crate::Store;
-use crate::checks;
-use crate::summaries;
 use poll::Answer;
 use poll::Handed;
 use run::Phase;
 use run::Tick;
+use store::Store;
+use store::checks;
 
 // What a poll leaves: its answer, and what changes of the state.
 pub struct Left {
     pub answer: Answer,
     pub store: Store,
+}
+
+// The store after a poll of a run that shows a slot: done copies that slot's summary to slot 0's.
+fn after_poll(store: Store, slot: u32, answer: Answer) -> Store
+    requires { ⌜ slot ≤ 7 ⌝ }
+    ensures { λ r. ⌜ r ≡ setSummaries store (summariesAfter answer slot (store .summaries)) ⌝ }
+{
+    match answer {
+        Answer::Refused(_) => store,
+        Answer::Write(_) => store,
+        Answer::Line(_) => store,
+        Answer::Wait(_) => store,
+        Answer::Done => {
+            let summaries = store.summaries;
+            store.with_summaries(summary::with_shown(summaries, slot as usize))
+        }
+    }
 }
 
 // What a poll of a run that shows a slot leaves.
@@ -26,7 +43,7 @@ fn leave(store: Store, slot: u32, handed: Handed) -> Left
     let phase = handed.phase;
     Left {
         answer,
-        store: summaries::after_poll(store.with_phase(phase), slot, answer),
+        store: after_poll(store.with_phase(phase), slot, answer),
     }
 }
 

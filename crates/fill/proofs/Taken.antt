@@ -12,6 +12,8 @@ use borrow.Author.Tests.{lt-ltb, le-ltb, le-leb, lt-leb, leb-true, eq-eqb, ne-eq
 use lib.Bits.{bitOr, or-zero-l, or-add-and, and-le-r}
 use lib.Dec.{eqb, leb}
 use lib.ListN.{length, getD, take, drop, replicate, length-append, length-drop, length-replicate, take-append-drop, drop-of-length-le}
+use mir.Syntax.{w64}
+use mir.Val.{Fits}
 use lib.Seq.{take-all, drop-cons, drop-drop, length-take-le}
 use Rattle.lists.specs.Lists.{overlayAt}
 use Rattle.lists.proofs.Lists.{take-overlayAt, overlay-whole}
@@ -19,6 +21,7 @@ use Rattle.lists.proofs.Parts.{part-length}
 use Rattle.lists.proofs.Rules.{and-left}
 use Rattle.bitmap.specs.Header.{headerLength, fileLength}
 use Rattle.bitmap.specs.Palettes.{paletteOf, blackAndWhite}
+use Rattle.bitmap.proofs.Check.{rows-small}
 use Rattle.bitmap_prefix.specs.Begins.{headerBegins}
 use Rattle.bitmap_prefix.proofs.Begins.{begins-header, begins-empty, header-same}
 use Rattle.bitmap.specs.declared.Palette.{Palette}
@@ -141,6 +144,45 @@ module _ (b h s : ℕ) (chunk : List ℕ) (i r : ℕ) (here : Fill) (raw raw′ 
 
   pub rows-next : bytesFed b h s (moved, raw′) (drop (i + r) chunk) ≡ bytesFed b h s (here, raw) (drop i chunk)
   rows-next = rw (← drop-drop r i chunk) (bytes-rest b h s (here, raw) (moved, raw′) r (drop i chunk) rows-fed)
+
+-- ---- a turn of the loop, in numbers
+
+-- from index i of `all` bytes, n are taken: the least of what the header or row lacks and what is left
+module _ (i all part kept n : ℕ) (more : i < all) (lacks : kept < part) (least : n ≡ min (part - kept) (all - i)) where
+  pub some-taken : 0 < n
+  some-taken = omega arith
+
+  pub taken-fits : i + n ≤ all
+  taken-fits = omega arith
+
+  pub taken-room : (k p : ℕ) → kept ≡ k → part ≡ p → k + n ≤ p
+  taken-room k p e f = omega arith
+
+-- r of those that are left go no further, and fewer are left
+pub next-fits : (all j r : ℕ) → j ≤ all → r ≤ all - j → j + r ≤ all
+next-fits all j r h l = omega arith
+
+pub less-left : (all i n r : ℕ) → 0 < n → i + n + r ≤ all → all - (i + n + r) < all - i
+less-left all i n r p h = omega arith
+
+-- `came` bytes came before them, `before` with those up to index i, and `next` with the n after these
+module _ (h s came all i n before : ℕ) (whole : came + all ≤ fileLength h s) (so-far : before ≡ came + i) where
+  pub piece-fits : i + n ≤ all → before + n ≤ fileLength h s
+  piece-fits fits = omega arith
+
+  module _ (next : ℕ) (counted : next ≡ before + n) where
+    pub left-fits : (left : ℕ) → left ≡ all - (i + n) → i + n ≤ all → next + left ≤ fileLength h s
+    left-fits left e fits = omega arith
+
+    pub all-counted : (r : ℕ) → next + r ≡ came + (i + n + r)
+    all-counted r = omega arith
+
+    module _ (r : ℕ) (high : h ≤ 176) (wide : s ≤ 36) (fits : i + n + r ≤ all) where
+      pub came-fits : Fits w64 (next + r)
+      came-fits = omega (arith, rows-small h s high wide)
+
+      pub index-fits : Fits w64 (i + n + r)
+      index-fits = omega (arith, rows-small h s high wide)
 
 -- ---- whether a chunk goes on
 

@@ -6,44 +6,36 @@ use mathlib.Core.List.{List, [], _∷_, _++_}
 use Prim.Native.Nat.{ℕ, zero, suc, _+_}
 use lib.Dec.{leb}
 use lib.ListN.{replicate}
-use Rattle.finish_panel.specs.declared.Data.{Data}
-use Rattle.finish_panel.specs.declared.Data.the-variants.{Byte, Pair, Otp, Dctl, Index, New, Second}
 use Rattle.finish_panel.specs.declared.Step.{Step}
-use Rattle.finish_panel.specs.declared.Step.the-variants as step
+use Rattle.finish_panel.specs.declared.Step.the-variants.{Byte, Pair, Otp, Dctl, Index, New, Second, Delay, BusyHigh, Done}
 use Rattle.finish_panel.specs.Order.{Thing, write, delay, busyHigh, done, otpByte, otpBytes, initialize, sendImage, updateCog, stage, sendUpdate, stopDcDc}
 use Rattle.finish_panel.specs.Update.{otpLength, thingAt}
 
--- the data of a write
-abbrev pub dataOf : (otp : List ℕ) (index : ℕ) (new second : List ℕ) → Data → List ℕ
-dataOf otp index new second (Byte byte) = byte ∷ []
-dataOf otp index new second (Pair first second′) = first ∷ second′ ∷ []
-dataOf otp index new second (Otp at n) = otpBytes otp at n
-dataOf otp index new second Dctl = otpByte otp 0x10 ∷ 0x00 ∷ []
-dataOf otp index new second Index = index ∷ []
-dataOf otp index new second New = new
-dataOf otp index new second Second = second
-
+-- the thing that a step stands for
 abbrev pub thingOf : (otp : List ℕ) (index : ℕ) (new second : List ℕ) → Step → Thing
-thingOf otp index new second (step.Write register bytes) = write register (dataOf otp index new second bytes)
-thingOf otp index new second (step.Delay ms) = delay ms
-thingOf otp index new second step.BusyHigh = busyHigh
-thingOf otp index new second step.Done = done
+thingOf otp index new second (Byte register byte) = write register (byte ∷ [])
+thingOf otp index new second (Pair register first second′) = write register (first ∷ second′ ∷ [])
+thingOf otp index new second (Otp register at n) = write register (otpBytes otp at n)
+thingOf otp index new second (Dctl register) = write register (otpByte otp 0x10 ∷ 0x00 ∷ [])
+thingOf otp index new second (Index register) = write register (index ∷ [])
+thingOf otp index new second (New register) = write register new
+thingOf otp index new second (Second register) = write register second
+thingOf otp index new second (Delay ms) = delay ms
+thingOf otp index new second BusyHigh = busyHigh
+thingOf otp index new second Done = done
 
 -- a step that reads the OTP memory does not read past its end
-abbrev pub dataWithin : Data → Bool
-dataWithin (Byte byte) = true
-dataWithin (Pair first second) = true
-dataWithin (Otp at n) = leb (at + n) otpLength
-dataWithin Dctl = true
-dataWithin Index = true
-dataWithin New = true
-dataWithin Second = true
-
 abbrev pub stepWithin : Step → Bool
-stepWithin (step.Write register bytes) = dataWithin bytes
-stepWithin (step.Delay ms) = true
-stepWithin step.BusyHigh = true
-stepWithin step.Done = true
+stepWithin (Byte register byte) = true
+stepWithin (Pair register first second) = true
+stepWithin (Otp register at n) = leb (at + n) otpLength
+stepWithin (Dctl register) = true
+stepWithin (Index register) = true
+stepWithin (New register) = true
+stepWithin (Second register) = true
+stepWithin (Delay ms) = true
+stepWithin BusyHigh = true
+stepWithin Done = true
 
 -- a step stands for the thing at a place of some things, whatever the index and the pictures are
 pub record StandsFor (otp : List ℕ) (given : Step) (things : ℕ → List ℕ → List ℕ → List Thing) (k : ℕ) : Type 0 where

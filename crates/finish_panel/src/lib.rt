@@ -5,7 +5,7 @@ ghost use mathlib.Core.Bool.{true};
 ghost use mathlib.Core.List.{List, []};
 ghost use lib.ListN.{length, replicate};
 ghost use Rattle.lists.specs.Rules.{firstOf};
-ghost use Rattle.finish_panel.specs.Order.{write, otpBytes, stage, thingsOf};
+ghost use Rattle.finish_panel.specs.Order.{write, otpByte, otpBytes, stage, thingsOf};
 ghost use Rattle.finish_panel.specs.Update.{
   normalGood,
   normalIndex,
@@ -21,9 +21,7 @@ ghost use Rattle.finish_panel.specs.Update.{
   fastUpdate,
 };
 ghost use Rattle.finish_panel.specs.Facts.{
-  dataOf,
   thingOf,
-  dataWithin,
   stepWithin,
   StandsFor,
   secondFrame,
@@ -42,21 +40,17 @@ pub enum Answer {
     Done,
 }
 
-// The data of a write: one byte or two; the n bytes of the OTP memory from an index on; DCTL and 0; the temperature's index; the new
-// picture; or what goes to the second frame.
-enum Data {
-    Byte(u8),
-    Pair(u8, u8),
-    Otp(u8, u8),
-    Dctl,
-    Index,
-    New,
-    Second,
-}
-
-// A thing of an update, with where its data comes from: small enough to stand in a table.
+// A thing of an update, small enough to stand in a table. A write has its register first, then where its data comes from: one byte
+// or two; the n bytes of the OTP memory from an index on; DCTL and 0; the temperature's index; the new picture; or what goes to the
+// second frame.
 enum Step {
-    Write(u8, Data),
+    Byte(u8, u8),
+    Pair(u8, u8, u8),
+    Otp(u8, u8, u8),
+    Dctl(u8),
+    Index(u8),
+    New(u8),
+    Second(u8),
     Delay(u16),
     BusyHigh,
     Done,
@@ -64,51 +58,51 @@ enum Step {
 
 // What comes before the soft start.
 const BEFORE: [Step; 33] = [
-    Step::Write(0x01, Data::Dctl),
-    Step::Write(0x13, Data::Otp(0x15, 6)),
-    Step::Write(0x90, Data::Otp(0x0C, 4)),
-    Step::Write(0x12, Data::Otp(0x12, 3)),
-    Step::Write(0x10, Data::New),
-    Step::Write(0x12, Data::Otp(0x12, 3)),
-    Step::Write(0x11, Data::Second),
-    Step::Write(0x05, Data::Byte(0x7D)),
+    Step::Dctl(0x01),
+    Step::Otp(0x13, 0x15, 6),
+    Step::Otp(0x90, 0x0C, 4),
+    Step::Otp(0x12, 0x12, 3),
+    Step::New(0x10),
+    Step::Otp(0x12, 0x12, 3),
+    Step::Second(0x11),
+    Step::Byte(0x05, 0x7D),
     Step::Delay(50),
-    Step::Write(0x05, Data::Byte(0x00)),
+    Step::Byte(0x05, 0x00),
     Step::Delay(1),
-    Step::Write(0xD8, Data::Otp(0x1C, 1)),
-    Step::Write(0xD6, Data::Otp(0x1D, 1)),
-    Step::Write(0xA7, Data::Byte(0x10)),
+    Step::Otp(0xD8, 0x1C, 1),
+    Step::Otp(0xD6, 0x1D, 1),
+    Step::Byte(0xA7, 0x10),
     Step::Delay(2),
-    Step::Write(0xA7, Data::Byte(0x00)),
+    Step::Byte(0xA7, 0x00),
     Step::Delay(10),
-    Step::Write(0x44, Data::Byte(0x00)),
-    Step::Write(0x45, Data::Byte(0x80)),
-    Step::Write(0xA7, Data::Byte(0x10)),
+    Step::Byte(0x44, 0x00),
+    Step::Byte(0x45, 0x80),
+    Step::Byte(0xA7, 0x10),
     Step::Delay(2),
-    Step::Write(0xA7, Data::Byte(0x00)),
+    Step::Byte(0xA7, 0x00),
     Step::Delay(10),
-    Step::Write(0x44, Data::Byte(0x06)),
-    Step::Write(0x45, Data::Index),
-    Step::Write(0xA7, Data::Byte(0x10)),
+    Step::Byte(0x44, 0x06),
+    Step::Index(0x45),
+    Step::Byte(0xA7, 0x10),
     Step::Delay(2),
-    Step::Write(0xA7, Data::Byte(0x00)),
+    Step::Byte(0xA7, 0x00),
     Step::Delay(10),
-    Step::Write(0x60, Data::Otp(0x0B, 1)),
-    Step::Write(0x61, Data::Otp(0x1B, 1)),
-    Step::Write(0x02, Data::Otp(0x11, 1)),
-    Step::Write(0x03, Data::Otp(0x1F, 1)),
+    Step::Otp(0x60, 0x0B, 1),
+    Step::Otp(0x61, 0x1B, 1),
+    Step::Otp(0x02, 0x11, 1),
+    Step::Otp(0x03, 0x1F, 1),
 ];
 
 // What comes after it: the update command, and the stop of DC/DC.
 const AFTER: [Step; 8] = [
     Step::BusyHigh, // before the update command
-    Step::Write(0x15, Data::Byte(0x3C)),
+    Step::Byte(0x15, 0x3C),
     Step::BusyHigh, // before the stop
-    Step::Write(0x09, Data::Byte(0x7B)),
-    Step::Write(0x05, Data::Byte(0x5D)),
-    Step::Write(0x09, Data::Byte(0x7A)),
+    Step::Byte(0x09, 0x7B),
+    Step::Byte(0x05, 0x5D),
+    Step::Byte(0x09, 0x7A),
     Step::Delay(15),
-    Step::Write(0x09, Data::Byte(0x00)),
+    Step::Byte(0x09, 0x00),
 ];
 
 // ---- the step at a place of the order
@@ -134,12 +128,12 @@ fn low_seven(byte: u8) -> u16
     (byte % 128) as u16
 }
 
-// The value of a phase at a repeat of its stage, counted from 1.
-fn phase(initial: u8, variation: u8, turn: usize) -> u8
-    requires { ⌜ turn ≤ 127 ⌝ }
-    ensures { λ r. ⌜ r ≡ (initial + turn * variation) % 256 ⌝ }
+// The value of a phase at a repeat of its stage, counted from 1. Its initial value is at `at`, its variation two bytes further on.
+fn phase(otp: &[u8], at: usize, turn: usize) -> u8
+    requires { ⌜ (at + 2 < length (now otp)) × (turn ≤ 127) ⌝ }
+    ensures { λ r. ⌜ r ≡ (otpByte (now (otp .entry)) at + turn * otpByte (now (otp .entry)) (at + 2)) % 256 ⌝ }
 {
-    ((initial as usize + turn * variation as usize) % 256) as u8
+    ((otp[at] as usize + turn * otp[at + 2] as usize) % 256) as u8
 }
 
 // How many things the stage at `at` gives out.
@@ -158,15 +152,15 @@ fn stage_step(otp: &[u8], at: usize, k: usize) -> Step
     let turn = k / 4 + 1;
     let part = k % 4;
     if part == 0 {
-        return Step::Write(0x09, Data::Byte(otp[at + 5]));
+        return Step::Byte(0x09, otp[at + 5]);
     }
     if part == 1 {
-        let low = phase(otp[at + 1], otp[at + 3], turn);
-        let high = phase(otp[at + 2], otp[at + 4], turn);
-        return Step::Write(0x51, Data::Pair(low, high));
+        let low = phase(otp, at + 1, turn);
+        let high = phase(otp, at + 2, turn);
+        return Step::Pair(0x51, low, high);
     }
     if part == 2 {
-        return Step::Write(0x09, Data::Byte(otp[at + 6]));
+        return Step::Byte(0x09, otp[at + 6]);
     }
     Step::Delay(low_seven(otp[at + 7]))
 }
@@ -250,35 +244,6 @@ fn give_otp(register: u8, at: usize, n: usize, otp: &[u8], out: &mut [u8]) -> An
     give_write(register, &otp[at..end], out)
 }
 
-// A write of what a step says.
-fn give_data(
-    register: u8,
-    bytes: Data,
-    otp: &[u8],
-    index: u8,
-    new: &[u8],
-    shown: &[u8],
-    out: &mut [u8],
-) -> Answer
-    requires { ⌜ (length (now otp) ≡ 128) × (length (now new) ≤ 48000) × (length (now shown) ≤ 48000)
-        × (dataWithin bytes ≡ true) ⌝ }
-    ensures { λ r. ⌜ (r, now (out .exit))
-        ≡ giveOut []
-        (write register
-        (dataOf (now (otp .entry)) index (now (new .entry)) (secondFrame (now (shown .entry)) (length (now (new .entry)))) bytes))
-        (now (out .entry)) ⌝ }
-{
-    match bytes {
-        Data::Byte(byte) => give_write(register, &[byte], out),
-        Data::Pair(first, second) => give_write(register, &[first, second], out),
-        Data::Otp(at, n) => give_otp(register, at as usize, n as usize, otp, out),
-        Data::Dctl => give_write(register, &[otp[0x10], 0x00], out),
-        Data::Index => give_write(register, &[index], out),
-        Data::New => give_write(register, new, out),
-        Data::Second => give_second(register, shown, new.len(), out),
-    }
-}
-
 // Gives out what a step stands for.
 fn give_step(step: Step, otp: &[u8], index: u8, new: &[u8], shown: &[u8], out: &mut [u8]) -> Answer
     requires { ⌜ (length (now otp) ≡ 128) × (length (now new) ≤ 48000) × (length (now shown) ≤ 48000)
@@ -289,7 +254,13 @@ fn give_step(step: Step, otp: &[u8], index: u8, new: &[u8], shown: &[u8], out: &
         (now (out .entry)) ⌝ }
 {
     match step {
-        Step::Write(register, bytes) => give_data(register, bytes, otp, index, new, shown, out),
+        Step::Byte(register, byte) => give_write(register, &[byte], out),
+        Step::Pair(register, first, second) => give_write(register, &[first, second], out),
+        Step::Otp(register, at, n) => give_otp(register, at as usize, n as usize, otp, out),
+        Step::Dctl(register) => give_write(register, &[otp[0x10], 0x00], out),
+        Step::Index(register) => give_write(register, &[index], out),
+        Step::New(register) => give_write(register, new, out),
+        Step::Second(register) => give_second(register, shown, new.len(), out),
         Step::Delay(ms) => Answer::Delay(ms),
         Step::BusyHigh => Answer::BusyHigh,
         Step::Done => Answer::Done,

@@ -22,8 +22,9 @@ use Rattle.poll.specs.Poll.{pollAt, pollRun}
 use Rattle.poll.specs.declared.Answer.the-variants.{Wait}
 use Rattle.run.specs.declared.Phase.{Phase}
 use Rattle.run.specs.declared.Phase.the-variants.{Idle, Abandoned, Running}
+use Rattle.store.specs.Refusals.{isRunning}
 use Rattle.board.specs.State.{fileOf}
-use Rattle.board.specs.Calls.{isRunning, starting}
+use Rattle.board.specs.Calls.{starting}
 use Rattle.board.specs.History.{Call, Event, answered, isDone, eventsOf}
 use Rattle.theorems.specs.Order.{Thing, aWrite, aLine, theEnd, writesOf, rowsFrom, framesFrom, stagesFrom, thingsOfRun, thingsFrom, thingsIn, thingAnswer}
 use Rattle.theorems.specs.Progress.{isHandOut, handsOut, AllGo, none, more, nothing, hands, noTurns, stateAfter, handOuts, answerIn}

@@ -7,11 +7,10 @@ use mathlib.Core.List.{List, [], _∷_, _++_, map, append-nil, append-assoc}
 use Prim.Native.Nat.{ℕ, _+_, _*_, _≤_}
 use native.Mathlib.Nat.{zero-div}
 use native.Mathlib.Omega.{arith}
-use borrow.Author.Tests.{eq-eqb, ne-eqb, eqb-true, eqb-false, not-false, not-true}
+use borrow.Author.Tests.{ne-eqb, eqb-true, eqb-false, not-false, not-true}
 use lib.Dec.{eqb}
 use lib.ListN.{length, set, take, drop, replicate, length-append}
 use lib.Seq.{take-at, drop-at, length-take-le, set-set}
-use Rattle.lists.specs.Lists.{overlayAt}
 use Rattle.lists.proofs.Parts.{part-length}
 use Rattle.lists.proofs.Rules.{and-left, and-right, by-cases, taken, none-both, none-parts}
 use Rattle.panel.specs.Facts.{Sized}
@@ -20,7 +19,7 @@ use Rattle.picture.specs.Slots.{pictureOf, rawOf, slotBytes, withBytes, slotPic
 use Rattle.picture.proofs.Pictures.{Bytes, bytes-take, bytes-drop, bytes-append}
 use Rattle.picture.proofs.Slots.{Rows, slot-fits, length-raw, blank-picture, picture-raw, length-with, bytes-same, bytes-other, with-own}
 use Rattle.bitmap.specs.Bitmap.{bitmapGood, readPicture}
-use Rattle.bitmap.proofs.RoundTrip.{length-read, rows-read}
+use Rattle.bitmap.proofs.RoundTrip.{rows-read}
 use Rattle.bitmap_prefix.specs.Begins.{beginsGood}
 use Rattle.bitmap_prefix.proofs.Begins.{both, begins-front, begins-empty}
 use Rattle.bitmap_prefix.proofs.Whole.{good-begins, good-length}
@@ -40,21 +39,24 @@ use Rattle.run.specs.declared.Run.{Run}
 use Rattle.run.specs.declared.Phase.{Phase}
 use Rattle.run.specs.declared.Phase.the-variants.{Idle, Abandoned, Running}
 use Rattle.run.proofs.Valid as runs
-use Rattle.poll.specs.HandOut.{Outcome, outcome, handOut, shownAfter}
+use Rattle.poll.specs.HandOut.{Outcome, shownAfter}
+use Rattle.slots.specs.Slots.{countedIn, chunkWrites, finishWrites}
+use Rattle.store.specs.Refusals.{isFilling, beginOwn}
+use Rattle.store.proofs.Conditions.{valid-state, run-of}
+use Rattle.store.proofs.Cases.{Fillable, fillable, fill-free}
 use Rattle.board.specs.State.{fileOf, sizesOf, withPhase, withFill, withSummaries, stateValid, storeCases}
-use Rattle.board.specs.Calls.{isFilling, reply, countedIn, counted, uploadCases, bitmapCases, drawnTo, bitmapUpload, beginOwn, beginCases, fillBegin, fillOwn, fillCases, onSlot, fedReply, onFill, chunkWrites, finishWrites, fillFeed, fillFinish, fillCancel}
-use Rattle.board.specs.History.{Call, uploadRegion, uploadBitmap, beginFill, feedFill, finishFill, cancelFill, start, poll, abandon, writeBitmap, summary, number, numberGiven, givenBy, Called, ofReply, callOn, memoryAfter}
+use Rattle.board.specs.Calls.{reply, counted, drawnTo, bitmapUpload, beginCases, fillBegin, fillCases, fedReply, onFill, fillFeed, fillFinish, fillCancel}
+use Rattle.board.specs.History.{Call, uploadRegion, uploadBitmap, beginFill, feedFill, finishFill, cancelFill, start, poll, abandon, writeBitmap, summary, number, Called, callOn, memoryAfter}
 use Rattle.board.specs.declared.State.{State}
 use Rattle.board.specs.declared.Reply.{Reply}
-use Rattle.board.proofs.States.{Tested, tested, store-free, valid-state, run-of}
-use Rattle.board.proofs.Tests.{Fillable, fillable, fill-free, upload-free}
+use Rattle.board.proofs.Tests.{Tested, tested, store-free}
 use Rattle.board.proofs.Effects as effects
-use Rattle.board.proofs.Effects.{Effect, Fills, feeds, finishes, cancels, At, polledTo, effect}
+use Rattle.board.proofs.Effects.{Effect, Fills, feeds, finishes, cancels, polledTo, effect}
 use Rattle.board.proofs.Filled.{act-length, act-unwritten, sized, filled-inside, filled-length}
 use Rattle.theorems.specs.Progress.{stateAfter}
 use Rattle.bitmap_prefix.specs.Meaning.{AreBytes}
 use Rattle.theorems.specs.Fills as spec
-use Rattle.theorems.specs.Fills.{chunkOf, sentBy, keepsFilling, allKeepFilling, calledAfter, SlotAfter, whitePicture, begins, good, pictureIn, Filled, Earns4, from-chunk, from-finish, Begun, FillsHold, BadFilesEarn4, fillCalls, FillsAsWhole}
+use Rattle.theorems.specs.Fills.{chunkOf, sentBy, keepsFilling, allKeepFilling, begins, good, pictureIn, Filled, Earns4, from-chunk, from-finish, Begun, FillsHold, BadFilesEarn4, FillsAsWhole}
 use Rattle.theorems.proofs.Handed.{by-handed}
 use Rattle.theorems.proofs.Kept.{leaves-valid, stays-valid}
 use Rattle.theorems.proofs.RoundTrips.{uploads}
@@ -188,7 +190,7 @@ module _ (slot : ℕ) (low : 1 ≤ slot) (raw : List ℕ) where
         by-handed (fileOf state) run tick moment memory out (Stays run tick out) (λ step next valid. same _ _ valid)
         (λ first stage frame row valid. same _ _ valid)
         (shown-going run tick out (run .slot) _
-        (runs.valid (fileOf state) (state .store .slots) run (run-of state run (g .tests .valid) (at .runs)) .high))
+        (runs.valid (fileOf state) (state .store .slots) run (run-of (valid-state (g .tests .valid)) (at .runs)) .high))
         (run .next)
         (leaves-valid state memory (g .tests .valid) (effects.hands tick out run moment at due))
 
@@ -236,7 +238,7 @@ module _ (slot : ℕ) (low : 1 ≤ slot) (raw : List ℕ) where
       left-length =
           ap (λ (q : Fed × List ℕ). length (q .1)) (sym is)
           ∙ act-length kind (sized state memory (g .tests))
-          (ap (fillValid b h s) (sym (g .fill-is)) ∙ valid-state state (g .tests .valid) .fill-good) held held-length
+          (ap (fillValid b h s) (sym (g .fill-is)) ∙ valid-state (g .tests .valid) .fill-good) held held-length
 
       whole : onFill state memory (act (state .store .fill)) (writes (state .store .fill)) ≡ Done writes r
       whole = acted act writes ∙ ap (Done writes) is
@@ -814,7 +816,7 @@ module _ (state : State) (memory : List ℕ) (slot : ℕ) (accepted : fillBegin 
   none-before : withFill state emptyFill ≡ state
   none-before =
       let t = starts state memory slot accepted bytes in
-      let v = valid-state state (t .1 .valid) in
+      let v = valid-state (t .1 .valid) in
       let none : state .store .fill .slot ≡ 0 = eqb-true (state .store .fill .slot) 0 (not-false _ (t .2 .none-filled)) in
       let y = z state memory slot accepted bytes in
       ap (withFill state)

@@ -8,7 +8,7 @@ use mathlib.Core.Logic.{⊎-elim}
 use Prim.Native.Nat.{ℕ, zero, suc, _+_, _*_, _≤_}
 use native.Mathlib.Omega.{arith}
 use borrow.Author.Tests.{eqb-true, eq-eqb, eqb-false, not-true}
-use lib.Dec.{eqb, leb}
+use lib.Dec.{leb}
 use lib.ListN.{length}
 use Rattle.lists.proofs.Rules.{and-left, and-right, either, by-cases}
 use Rattle.panel.specs.Dots.{rowDot}
@@ -21,19 +21,18 @@ use Rattle.summary.specs.declared.Summary.{Summary}
 use Rattle.run.specs.Due.{runFrames}
 use Rattle.run.specs.Runs.{begun}
 use Rattle.run.specs.declared.Tick.{Tick}
-use Rattle.run.specs.declared.Passed.{Passed}
-use Rattle.run.specs.declared.Position.{Position}
 use Rattle.run.specs.declared.Run.{Run}
 use Rattle.run.specs.declared.Phase.{Phase}
 use Rattle.run.specs.declared.Phase.the-variants.{Idle, Abandoned, Running}
 use Rattle.poll.specs.HandOut.{Outcome, outcome, stepBytes, lineBytes, handOut}
 use Rattle.poll.specs.declared.Answer.the-variants as answer
-use Rattle.board.specs.State.{fileOf, sizesOf, isRunsSlot, withPhase, withSummaries, stateValid}
+use Rattle.store.specs.Conditions.{isRunsSlot}
+use Rattle.store.proofs.Conditions.{valid-state}
+use Rattle.board.specs.State.{fileOf, sizesOf, withPhase, withSummaries, stateValid}
 use Rattle.board.specs.Calls.{reply, startCases, starting}
 use Rattle.board.specs.History.{Call, start, summary, Given, number, answered, summed, isAccepted, isDoneAnswer, isDone, Event, event, outOf, Called, callOn, eventsOf}
 use Rattle.board.specs.declared.State.{State}
 use Rattle.board.specs.declared.Reply.{Reply}
-use Rattle.board.proofs.States.{valid-state}
 use Rattle.board.proofs.Effects as effects
 use Rattle.board.proofs.Effects.{Effect, leaving, filledTo, polledTo, effect}
 use Rattle.board.proofs.Filled.{filled-low, filled-others}
@@ -194,7 +193,7 @@ module _ (state : State) (memory shown new : List ℕ) (slot : ℕ) (on : runsOn
         holds =
             other-changed (fileOf state) shown new slot memory (filledTo state memory call act writes .memory) (state .store .fill .slot)
             (filled-low (state .store .fill) is) (filled-others state memory t kind) (state .store .phase) on
-            (valid-state state (t .valid) .fill-apart) holds;
+            (valid-state (t .valid) .fill-apart) holds;
         over = λ d. absurd (false≢true d);
       }
   effect-leaves (effects.starts t tick u may) f = absurd (false≢true (sym f))

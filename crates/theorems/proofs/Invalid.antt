@@ -7,7 +7,8 @@ use mathlib.Core.List.{List}
 use Prim.Native.Nat.{ℕ}
 use lib.Dec.{eqb}
 use Rattle.lists.proofs.Rules.{broken}
-use Rattle.board.specs.State.{stateRules, stateValid, emptyState}
+use Rattle.store.specs.Conditions.{stateRules, keepsRules}
+use Rattle.board.specs.State.{stateValid, emptyState}
 use Rattle.board.specs.Calls.{regionUpload, bitmapUpload, fillBegin, fillFeed, fillFinish, fillCancel, starting, abandoning, polled, bitmapWrite, slotSummary}
 use Rattle.board.specs.History.{Call, uploadRegion, uploadBitmap, beginFill, feedFill, finishFill, cancelFill, start, poll, abandon, writeBitmap, summary, numberGiven, isAccepted, givenBy, callOn}
 use Rattle.board.specs.declared.State.{State}
@@ -29,8 +30,8 @@ invalid-refused state memory (summary slot) e = rw e
 
 -- the empty state, which has no slots, earns 13 everywhere
 pub empty-refused : (memory : List ℕ) (call : Call) → numberGiven (givenBy (callOn emptyState memory call .seen)) ≡ 13
-unfolding stateValid
-empty-refused memory call = invalid-refused emptyState memory call (broken 2 (stateRules emptyState) refl)
+unfolding keepsRules
+empty-refused memory call = invalid-refused emptyState memory call (broken 2 (stateRules (emptyState .settings) (emptyState .store)) refl)
 
 pub was-valid : (state : State) (memory : List ℕ) (call : Call) → isAccepted (givenBy (callOn state memory call .seen)) ≡ true
     → stateValid state ≡ true

@@ -37,13 +37,17 @@ use Rattle.run.proofs.Keeps.{begun-valid, waited-valid, start-written, stop-wri
 use Rattle.poll.specs.HandOut.{Outcome, outcome, handStart, handStop, handOut}
 use Rattle.poll.specs.declared.Answer.{Answer}
 use Rattle.poll.specs.declared.Answer.the-variants as answer
-use Rattle.board.specs.State.{fileOf, sizesOf, withPhase, withFill, isRunsSlot, phaseValid, stateValid, openedState}
-use Rattle.board.specs.Calls.{isFilling, opening, countedIn, onSlot, summariesAfter}
+use Rattle.slots.specs.Slots.{countedIn, onSlot}
+use Rattle.store.specs.Conditions.{isRunsSlot, phaseValid}
+use Rattle.store.specs.Refusals.{isFilling}
+use Rattle.store.proofs.Conditions.{valid-state, state-valid, phase-kept, fill-kept, summaries-kept, run-of}
+use Rattle.board.specs.State.{fileOf, sizesOf, stateValid, openedState}
+use Rattle.board.specs.Calls.{opening, summariesAfter}
 use Rattle.board.specs.History.{Call, isAccepted, givenBy, Called, callOn}
 use Rattle.board.specs.declared.State.{State}
 use Rattle.board.specs.declared.Reply.{Reply}
-use Rattle.board.proofs.States.{Tested, valid-state, state-valid, phase-kept, fill-kept, summaries-kept, run-of}
-use Rattle.board.proofs.Effects.{Fills, filledTo, Effect, refuses, reads, tells, draws, begins, fills, starts, abandons, waits, hands, At, polledTo, effect}
+use Rattle.board.proofs.Tests.{Tested}
+use Rattle.board.proofs.Effects.{Fills, filledTo, Effect, refuses, reads, tells, draws, begins, fills, starts, abandons, waits, hands, polledTo, effect}
 use Rattle.board.proofs.Filled.{act-valid, act-slot, sized}
 use Rattle.board.proofs.Opening.{opened, opened-file}
 use Rattle.theorems.specs.Progress.{stateAfter}
@@ -86,7 +90,7 @@ module _ (state : State) (memory : List ℕ) (valid : stateValid state ≡ true)
   Counts summaries = summariesGood (sizesOf state .bytes) (sizesOf state .rows) (state .store .slots) summaries ≡ true
 
   counts : Counts (state .store .summaries)
-  counts = valid-state state valid .summaries-good
+  counts = valid-state valid .summaries-good
 
   -- a fresh count of any slot
   counted-good : (after : List ℕ) (slot : ℕ) → Counts (countedIn (sizesOf state) after slot (state .store .summaries))
@@ -98,7 +102,7 @@ module _ (state : State) (memory : List ℕ) (valid : stateValid state ≡ true)
       → Leaves (fileOf state) (state .store .slots) o → isRunsSlot (phaseIn o) filled ≡ false
       → stateValid (polledTo state memory run tick out o .state) ≡ true
   in-state run tick out (outcome given phase memory′ out′) high e apart =
-      summaries-kept (withPhase state phase) _ (phase-kept state phase valid e apart) (after given)
+      summaries-kept (valid-state (phase-kept (valid-state valid) phase e apart)) _ (after given)
     where
       after : (a : Answer) → Counts (summariesAfter a (run .slot) (state .store .summaries))
       after (answer.Refused n) = counts
@@ -110,10 +114,10 @@ module _ (state : State) (memory : List ℕ) (valid : stateValid state ≡ true)
 
   -- a run under way has another slot
   run-apart : (run : Run) → state .store .phase ≡ Running run → eqb (run .slot) filled ≡ false
-  run-apart run at = ap (λ (p : Phase). isRunsSlot p filled) (sym at) ∙ valid-state state valid .fill-apart
+  run-apart run at = ap (λ (p : Phase). isRunsSlot p filled) (sym at) ∙ valid-state valid .fill-apart
 
   no-run-of-0 : isRunsSlot (state .store .phase) 0 ≡ false
-  no-run-of-0 = go (state .store .phase) (valid-state state valid .phase-good)
+  no-run-of-0 = go (state .store .phase) (valid-state valid .phase-good)
     where
       go : (phase : Phase) → phaseValid (fileOf state) (state .store .slots) phase ≡ true → isRunsSlot phase 0 ≡ false
       go Idle e = refl
@@ -126,14 +130,14 @@ module _ (state : State) (memory : List ℕ) (valid : stateValid state ≡ true)
       → Tested state (length memory) → isFilling (state .store .fill) ≡ true
       → stateValid (filledTo state memory call act writes .state) ≡ true
   fills-valid {call} {act} {writes} kind t is =
-      let v = valid-state state valid in
+      let v = valid-state valid in
       let slot : (P : ℕ → Type 0) → P filled → P 0 → _ = act-slot kind (sized state memory t) (v .fill-good) _ in
       let kept =
-      fill-kept state _ valid (slot (λ k. k ≤ state .store .slots) (v .fill-high) (omega arith))
+      fill-kept (valid-state valid) _ (slot (λ k. k ≤ state .store .slots) (v .fill-high) (omega arith))
       (slot (λ k. isRunsSlot (state .store .phase) k ≡ false) (v .fill-apart) no-run-of-0)
       (act-valid kind (sized state memory t) (v .fill-good) is _) in
       let d = onSlot (sizesOf state) memory filled act in
-      summaries-kept (withFill state (d .0 .fill)) _ kept
+      summaries-kept (valid-state kept) _
       (by-test Counts (writes (d .0)) (countedIn (sizesOf state) (d .1) filled (state .store .summaries)) (state .store .summaries)
       (λ w. counted-good (d .1) filled) (λ w. counts))
 
@@ -142,28 +146,28 @@ module _ (state : State) (memory : List ℕ) (valid : stateValid state ≡ true)
   leaves-valid (refuses call given e) = valid
   leaves-valid (reads call out′ e t) = valid
   leaves-valid (tells slot held t) = valid
-  leaves-valid (draws call slot picture e t may long) = summaries-kept state _ valid (counted-good _ slot)
+  leaves-valid (draws call slot picture e t may long) = summaries-kept (valid-state valid) _ (counted-good _ slot)
   leaves-valid (begins slot t may) =
       let z = sized state memory t in
-      fill-kept state (begunFill slot) valid (may .upload .takes .high) (may .upload .not-runs)
+      fill-kept (valid-state valid) (begunFill slot) (may .upload .takes .high) (may .upload .not-runs)
       (valid-begun (sizesOf state .bytes) (sizesOf state .rows) (sizesOf state .stride) (z .some) (z .narrow) (z .within) (z .small) (z .low) slot)
   leaves-valid (fills call act writes kind t is) = fills-valid kind t is
   leaves-valid (starts slot tick t may) =
-      phase-kept state (Running (begun slot tick)) valid
+      phase-kept (valid-state valid) (Running (begun slot tick))
       (begun-valid (fileOf state) (state .store .slots) slot tick (may .takes .low) (may .takes .high))
       (ne-eqb slot (state .store .fill .slot) (λ e. eqb-false (state .store .fill .slot) slot (may .not-filled) (sym e)))
-  leaves-valid (abandons t is) = phase-kept state Abandoned valid refl refl
+  leaves-valid (abandons t is) = phase-kept (valid-state valid) Abandoned refl refl
   leaves-valid (waits tick out run moment at before) =
       let later : run .passed .0 ≤ moment .0 =
       let q : moment .0 ≡ passedAt (run .passed) (run .last) tick = ap (λ (p : Passed). p .0) (at .is) in omega arith in
-      phase-kept state _ valid
-      (waited-valid (fileOf state) (state .store .slots) run (run-of state run valid (at .runs)) tick moment later)
+      phase-kept (valid-state valid) _
+      (waited-valid (fileOf state) (state .store .slots) run (run-of (valid-state valid) (at .runs)) tick moment later)
       (run-apart run (at .runs))
   leaves-valid (hands tick out run moment at due) =
       in-state run tick out (handOut (fileOf state) run tick moment memory out (run .next))
-      (runs.valid (fileOf state) (state .store .slots) run (run-of state run valid (at .runs)) .high)
-      (handed-leaves (fileOf state) (state .store .slots) run tick memory out (valid-state state valid .good)
-      (run-of state run valid (at .runs)) moment due (run .next) refl)
+      (runs.valid (fileOf state) (state .store .slots) run (run-of (valid-state valid) (at .runs)) .high)
+      (handed-leaves (fileOf state) (state .store .slots) run tick memory out (valid-state valid .good)
+      (run-of (valid-state valid) (at .runs)) moment due (run .next) refl)
       (by-handed (fileOf state) run tick moment memory out (λ o. isRunsSlot (phaseIn o) filled ≡ false)
       (λ step next. run-apart run (at .runs)) (λ first stage frame row. run-apart run (at .runs)) refl (run .next))
 
@@ -198,7 +202,7 @@ opened-valid file n memory accepted =
     let room : length file ≤ length blank = rw (length-replicate {A = ℕ} longestFile 0) (good-short file (o .good)) in
     let fits : length file ≤ length (openedState file n .settings .file) = rw (length-overlay file blank room) room in
     ap (λ (r : Reply × List ℕ). stateValid (r .0 .state)) (o .leaves)
-    ∙ state-valid (openedState file n)
+    ∙ state-valid
     (record {
       within = fits;
       good = rw (opened-file file n) (o .good);

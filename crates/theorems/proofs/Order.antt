@@ -4,7 +4,6 @@ use mathlib.Core.Path.{_≡_, refl, sym, ap, _∙_}
 use mathlib.Core.Bool.{true}
 use mathlib.Core.List.{List, [], _∷_, _++_}
 use Prim.Native.Nat.{ℕ, _+_, _-_, _<_}
-use native.Mathlib.Omega.{arith}
 use lib.ListN.{drop}
 use Rattle.panel.proofs.Panels.{size-of}
 use Rattle.settings.specs.Settings.{Step, panelOf, startSteps, stopSteps, settingsGood, rowsIn}

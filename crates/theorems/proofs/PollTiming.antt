@@ -11,8 +11,6 @@ use lib.Dec.{eqb}
 use lib.ListN.{length, drop}
 use Rattle.lists.specs.Lists.{overlay}
 use Rattle.lists.proofs.Rules.{by-test}
-use Rattle.panel.specs.Facts.{Sized}
-use Rattle.panel.specs.Panels.{shapeOf}
 use Rattle.panel.proofs.Panels.{size-of}
 use Rattle.settings.specs.Settings.{Step, panelOf, startCount, startSteps, stopCount, stopSteps, settingsGood, rowsIn}
 use Rattle.settings.specs.Steps.{waitsBefore, fromWrite}

@@ -23,12 +23,12 @@ use Rattle.poll.specs.Answers.{putOut}
 use Rattle.poll.specs.HandOut.{Outcome, outcome, stepBytes, lineBytes, handOut}
 use Rattle.poll.specs.declared.Answer.{Answer}
 use Rattle.poll.specs.declared.Answer.the-variants as answer
+use Rattle.store.proofs.Conditions.{valid-state, run-of}
 use Rattle.board.specs.State.{fileOf, withPhase, withSummaries, stateValid}
 use Rattle.board.specs.Calls.{reply, inState, startCases, starting}
 use Rattle.board.specs.History.{Call, start, poll, summary, Given, number, answered, summed, isAccepted, event, outOf, Called, ofPoll, callOn, eventsOf}
 use Rattle.board.specs.declared.State.{State}
 use Rattle.board.specs.declared.Reply.{Reply}
-use Rattle.board.proofs.States.{valid-state, run-of}
 use Rattle.board.proofs.Effects as effects
 use Rattle.board.proofs.Effects.{Effect, leaving, polledTo, effect}
 use Rattle.theorems.specs.Order.{Thing, aWrite, aLine, theEnd, thingsOfRun, thingsIn, thingBytes, thingAnswer, HandsFirst, InOrder}
@@ -120,7 +120,7 @@ module _ (state : State) (memory : List ℕ) (slot : ℕ) (valid : stateValid st
     handed moment =
         let file = fileOf state in
         let o = handOut file run tick moment memory out (run .next) in
-        let order = in-order file (state .store .slots) run tick memory out (valid-state state valid .good) (run-of state run valid at) moment in
+        let order = in-order file (state .store .slots) run tick memory out (valid-state valid .good) (run-of (valid-state valid) at) moment in
         let ordered : InOrder file memory out slot (thingsIn file (state .store .phase)) o = rw (at, ← eqb-true (run .slot) slot on-run) order in
         in-state o (hands-on file slot tick memory out run on-run moment (run .next)) ordered
 

@@ -27,12 +27,14 @@ use Rattle.poll.specs.Answers.{answerNumber}
 use Rattle.poll.specs.HandOut.{Outcome, outcome, handOut}
 use Rattle.poll.specs.declared.Answer.{Answer}
 use Rattle.poll.specs.declared.Answer.the-variants as answer
-use Rattle.board.specs.State.{fileOf, sizesOf, withFill, withSummaries, stateValid, storeBytes}
-use Rattle.board.specs.Calls.{isFilling, reply, countedIn, onSlot, fedReply, onFill, chunkWrites, finishWrites, fillFeed, fillFinish, fillCancel}
+use Rattle.slots.specs.Slots.{storeBytes, countedIn, onSlot, chunkWrites, finishWrites}
+use Rattle.store.specs.Refusals.{isFilling}
+use Rattle.board.specs.State.{fileOf, sizesOf, withFill, withSummaries, stateValid}
+use Rattle.board.specs.Calls.{reply, fedReply, onFill, fillFeed, fillFinish, fillCancel}
 use Rattle.board.specs.History.{Call, uploadRegion, uploadBitmap, beginFill, feedFill, finishFill, cancelFill, start, poll, abandon, writeBitmap, summary, numberGiven, isAccepted, givenBy, outOf, Called, ofReply, callOn}
 use Rattle.board.specs.declared.State.{State}
 use Rattle.board.specs.declared.Reply.{Reply}
-use Rattle.board.proofs.States.{Tested, tested}
+use Rattle.board.proofs.Tests.{Tested, tested}
 use Rattle.board.proofs.Filled.{filled-inside}
 use Rattle.board.proofs.Effects.{Fills, feeds, finishes, cancels, Effect, refuses, reads, tells, draws, begins, fills, starts, abandons, waits, hands, polledTo, effect}
 use Rattle.theorems.specs.Refusals.{Unchanged, breaksFill, FillBroken}

@@ -6,7 +6,7 @@ use mathlib.Core.Path.{_≡_, refl, sym, ap, _∙_, subst}
 use mathlib.Core.Bool.{true, false, not}
 use mathlib.Core.List.{List, _++_}
 use Prim.Native.Nat.{ℕ, _+_, _*_, _≤_, _<_}
-use borrow.Author.Tests.{not-false, eqb-false, eq-eqb}
+use borrow.Author.Tests.{eqb-false, eq-eqb}
 use lib.ListN.{length, take}
 use Rattle.lists.specs.Lists.{overlay}
 use Rattle.lists.proofs.Lists.{take-overlay}
@@ -23,14 +23,18 @@ use Rattle.picture.proofs.Slots.{Rows, slot-fits, rows-slot, with-own-picture, 
 use Rattle.bitmap.specs.Header.{fileLength}
 use Rattle.bitmap.specs.Bitmap.{bitmapGood, readPicture, writtenFile, normalForm}
 use Rattle.bitmap.proofs.RoundTrip.{length-file, rows-read, read-written, write-read, read-normal, good-written}
-use Rattle.board.specs.State.{fileOf, sizesOf, isRunsSlot, stateValid, storeBytes, storeCases}
-use Rattle.board.specs.Calls.{isFilled, reply, counted, uploadOwn, uploadCases, bitmapCases, bitmapDrawn, drawnTo, bitmapUpload, writeOwn, writeCases, bitmapWritten, bitmapWrite}
+use Rattle.slots.specs.Slots.{bitmapCases, bitmapDrawn, bitmapWritten}
+use Rattle.store.specs.Conditions.{isRunsSlot}
+use Rattle.store.specs.Refusals.{isFilled, uploadOwn, writeOwn}
+use Rattle.store.proofs.Conditions.{valid-state}
+use Rattle.store.proofs.Cases.{Uploadable, uploadable, upload-free, Writable, writable, write-free}
+use Rattle.board.specs.State.{fileOf, sizesOf, stateValid, storeCases}
+use Rattle.board.specs.Calls.{reply, counted, uploadCases, drawnTo, bitmapUpload, writeCases, bitmapWrite}
 use Rattle.board.specs.History.{uploadBitmap}
 use Rattle.board.specs.declared.State.{State}
 use Rattle.board.specs.declared.Reply.{Reply}
 use Rattle.theorems.specs.Copies.{fileLeft, Carried, FileCarries}
-use Rattle.board.proofs.States.{Tested, tested, store-free, valid-state}
-use Rattle.board.proofs.Tests.{Uploadable, uploadable, upload-free, Writable, writable, write-free}
+use Rattle.board.proofs.Tests.{Tested, tested, store-free}
 use Rattle.theorems.proofs.Kept.{valid-kept}
 
 module _ (state : State) where
@@ -78,7 +82,7 @@ module _ (state : State) where
         then (tested state (length memory) (parts .0)) (uploadable (state .store) slot (parts .1)))
 
     size : Tested state (length memory) → Sized (sizesOf state)
-    size t = size-of (panelOf (fileOf state)) (good-panel (fileOf state) (valid-state state (t .valid) .good))
+    size t = size-of (panelOf (fileOf state)) (good-panel (fileOf state) (valid-state (t .valid) .good))
 
     fits : Tested state (length memory) → slot ≤ state .store .slots → slot * (h * b) + h * b ≤ length memory
     fits t le = slot-fits b h (state .store .slots) (length memory) (t .exact) slot le

@@ -1,10 +1,10 @@
 -- Every summary equals a fresh count, over every list of calls since an accepted opening.
 -- Assumes nothing.
 use mathlib.Core.Path.{_≡_, refl, sym, ap, _∙_, subst}
-use mathlib.Core.Bool.{Bool, true, false}
+use mathlib.Core.Bool.{Bool, true}
 use mathlib.Core.List.{List, [], _∷_}
 use Prim.Native.Nat.{ℕ, _≤_}
-use lib.ListN.{length, getD, replicate}
+use lib.ListN.{length, getD}
 use Rattle.lists.proofs.Rules.{by-test, taken}
 use Rattle.settings.specs.Settings.{rowBytesIn, rowsIn}
 use Rattle.picture.specs.Slots.{slotBytes, withBytes, slotPicture}
@@ -13,17 +13,15 @@ use Rattle.fill.specs.declared.Fed.{Fed}
 use Rattle.summary.specs.Summaries.{summaryOf, emptySummary, SummariesFresh}
 use Rattle.summary.specs.declared.Summary.{Summary}
 use Rattle.summary.proofs.Kept.{fresh-opened, fresh-written, fresh-drawn, fresh-copied}
-use Rattle.run.specs.declared.Tick.{Tick}
-use Rattle.run.specs.declared.Run.{Run}
 use Rattle.run.proofs.Valid as runs
-use Rattle.poll.specs.HandOut.{Outcome, outcome, handOut}
-use Rattle.board.specs.State.{fileOf, sizesOf, stateValid, openedState, emptySummaries}
-use Rattle.board.specs.Calls.{opening, countedIn, onSlot, summaryCases, summarised, slotSummary}
+use Rattle.slots.specs.Slots.{countedIn, onSlot}
+use Rattle.store.proofs.Conditions.{valid-state, run-of}
+use Rattle.board.specs.State.{fileOf, sizesOf, stateValid}
+use Rattle.board.specs.Calls.{opening, summaryCases, summarised, slotSummary}
 use Rattle.board.specs.History.{Call, Called, callOn, memoryAfter}
 use Rattle.board.specs.declared.State.{State}
 use Rattle.board.specs.declared.Reply.{Reply}
-use Rattle.board.proofs.States.{Tested, valid-state, run-of}
-use Rattle.board.proofs.Tests.{told-free}
+use Rattle.board.proofs.Tests.{Tested, told-free}
 use Rattle.board.proofs.Effects as effects
 use Rattle.board.proofs.Effects.{Effect, Fills, filledTo, polledTo, effect}
 use Rattle.board.proofs.Filled.{act-unwritten, sized, filled-inside, filled-others}
@@ -59,7 +57,7 @@ module _ (state : State) (memory : List ℕ) where
 
   module _ (f : SummariesFresh b h memory n held) where
     few : Tested state (length memory) → n ≤ 7
-    few t = valid-state state (t .valid) .few
+    few t = valid-state (t .valid) .few
 
     -- a call of a fill wrote its slot and counted it, or left both
     filled-fresh : {call : Call} {act : List ℕ → Fed × List ℕ} {writes : Fed → Bool} → Fills (sizesOf state) (state .store .fill) call act writes
@@ -69,7 +67,7 @@ module _ (state : State) (memory : List ℕ) where
         let slot = state .store .fill .slot in
         let raw : List ℕ = slotBytes b h memory slot in
         let d = onSlot (sizesOf state) memory slot act in
-        let high = valid-state state (t .valid) .fill-high in
+        let high = valid-state (t .valid) .fill-high in
         by-test (SummariesFresh b h (d .1) n) (writes (d .0)) (countedIn (sizesOf state) (d .1) slot held) held
         (λ w. fresh-written b h n (few t) memory held f (d .1) slot high (filled-others state memory t kind))
         (λ w.
@@ -96,7 +94,7 @@ module _ (state : State) (memory : List ℕ) where
     stays-fresh (effects.waits tick out run moment at before) = record { file-is = refl; slots-are = refl; counts = f }
     stays-fresh (effects.hands tick out run moment at due) =
         let t = at .tests in
-        let high = runs.valid (fileOf state) n run (run-of state run (t .valid) (at .runs)) .high in
+        let high = runs.valid (fileOf state) n run (run-of (valid-state (t .valid)) (at .runs)) .high in
         by-handed (fileOf state) run tick moment memory out (λ o. Still (polledTo state memory run tick out o))
         (λ step next. record { file-is = refl; slots-are = refl; counts = f }) (λ first stage frame row. record { file-is = refl; slots-are = refl; counts = f })
         (record {

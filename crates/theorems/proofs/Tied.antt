@@ -16,8 +16,9 @@ use Rattle.picture.specs.Slots.{slotPicture}
 use Rattle.bitmap.specs.Header.{fileLength}
 use Rattle.bitmap.specs.Bitmap.{normalForm}
 use Rattle.summary.specs.Summaries.{summaryOf}
-use Rattle.board.specs.State.{fileOf, sizesOf, stateValid, emptyState, openedState}
-use Rattle.board.specs.Calls.{reply, openCases, opening, uploadCases, fillBegin, starting, bitmapUpload, bitmapWrite, summarised, slotSummary}
+use Rattle.store.specs.Refusals.{openCases}
+use Rattle.board.specs.State.{fileOf, sizesOf, stateValid, emptyState}
+use Rattle.board.specs.Calls.{reply, opening, uploadCases, fillBegin, starting, bitmapUpload, bitmapWrite, summarised, slotSummary}
 use Rattle.board.specs.History.{Call, feedFill, finishFill, cancelFill, Event, numberGiven, isAccepted, givenBy, outOf, Called, callOn, eventsOf, memoryAfter}
 use Rattle.board.specs.Chains.{Parts, Chain, finished, more}
 use Rattle.board.specs.declared.State.{State}

@@ -2,7 +2,7 @@
 -- is handed out before it is due, a wait answer is exactly what is still to go, and from the due moment on a poll that is not refused
 -- hands the thing out; all of it as read from outside.
 -- Assumes nothing.
-use mathlib.Core.Path.{_≡_, refl, sym, ap, subst}
+use mathlib.Core.Path.{_≡_, refl, sym, subst}
 use mathlib.Core.Bool.{true, false}
 use mathlib.Core.List.{List, [], _∷_}
 use Prim.Native.Nat.{ℕ, _-_, _≤_, _<_}
@@ -19,14 +19,14 @@ use Rattle.run.specs.declared.Run.{Run}
 use Rattle.run.specs.declared.Phase.the-variants.{Running}
 use Rattle.poll.specs.HandOut.{Outcome, outcome, handOut}
 use Rattle.poll.specs.declared.Answer.the-variants as answer
+use Rattle.store.proofs.Conditions.{valid-state, run-of}
 use Rattle.board.specs.State.{fileOf, withPhase, withSummaries, stateValid, openedState}
 use Rattle.board.specs.Calls.{reply, startCases, starting}
 use Rattle.board.specs.History.{Call, start, summary, Part, starts, polls, abandons, noPart, partOf, Given, number, answered, summed, isAccepted, Called, callOn, eventsOf}
 use Rattle.board.specs.declared.State.{State}
 use Rattle.board.specs.declared.Reply.{Reply}
-use Rattle.board.proofs.States.{valid-state, run-of}
 use Rattle.board.proofs.Effects as effects
-use Rattle.board.proofs.Effects.{Effect, At, leaving, polledTo, effect}
+use Rattle.board.proofs.Effects.{Effect, leaving, polledTo, effect}
 use Rattle.board.proofs.Filled.{fills-apart}
 use Rattle.board.proofs.Opening.{opened, opened-file}
 use Rattle.theorems.specs.Progress.{handsOut}
@@ -114,15 +114,15 @@ module _ (state : State) (memory : List ℕ) (valid : stateValid state ≡ true)
   effect-on (effects.abandons t is) = record { file-kept = refl; timely = refl; follows = refl }
   effect-on (effects.waits tick out run moment at before) =
       let file = fileOf state in
-      let good = valid-state state valid .good in
-      let ok = run-of state run valid (at .runs) in
+      let good = valid-state valid .good in
+      let ok = run-of (valid-state valid) (at .runs) in
       of-run tick out run (at .runs) (waiting tick out run moment)
       (subst (λ (m : Passed). KeepsTime file (run .slot) (watchOf file run) tick memory (waiting tick out run m)) (sym (at .is))
       (early-keeps file (state .store .slots) run tick memory out good ok (subst (λ (m : Passed). m .0 < dueOf file run) (at .is) before)))
   effect-on (effects.hands tick out run moment at due) =
       let file = fileOf state in
-      let good = valid-state state valid .good in
-      let ok = run-of state run valid (at .runs) in
+      let good = valid-state valid .good in
+      let ok = run-of (valid-state valid) (at .runs) in
       of-run tick out run (at .runs) (handing tick out run moment)
       (subst (λ (m : Passed). KeepsTime file (run .slot) (watchOf file run) tick memory (handing tick out run m)) (sym (at .is))
       (late-keeps file (state .store .slots) run tick memory out good ok (subst (λ (m : Passed). dueOf file run ≤ m .0) (at .is) due)))

@@ -30,9 +30,10 @@ use Rattle.summary.specs.Conditions.{summaryGood, summariesGood}
 use Rattle.run.specs.Conditions.{runValid}
 use Rattle.run.specs.declared.Tick.{Tick}
 use Rattle.poll.specs.Poll.{pollAt, pollRun}
-use Rattle.board.specs.State.{stateValid, openedState}
+use Rattle.board.specs.State.{openedState}
 use Rattle.board.specs.Calls.{regionUpload, starting, polled}
 use Rattle.board.specs.declared.State.{State}
+use Rattle.store.specs.Conditions.{keepsRules}
 
 -- ---- the stores of the table
 
@@ -101,7 +102,7 @@ pub record WorkedByHand : Type 0 where
   pub step-back : pollNumber 5 (5 + 2147483648) ≡ 10
 
 pub worked-by-hand : WorkedByHand
-unfolding line evenByte oddByte scanByte codeBy rowDot handedLine sumOf pushed dotBits scanBits pushOf regionUpload stateValid settingsGood stepOf writeOf waitOf requiredData dataLength channelData gateSourceLevel withRegion withPicture withBytes slotPicture slotBytes pictureOf rawOf overdrawn draw over dot regionGood payloadGood stepFrom clockRefused polled pollRun pollAt dueOf runValid fillValid headerBegins summariesGood summaryGood starting
+unfolding line evenByte oddByte scanByte codeBy rowDot handedLine sumOf pushed dotBits scanBits pushOf regionUpload keepsRules settingsGood stepOf writeOf waitOf requiredData dataLength channelData gateSourceLevel withRegion withPicture withBytes slotPicture slotBytes pictureOf rawOf overdrawn draw over dot regionGood payloadGood stepFrom clockRefused polled pollRun pollAt dueOf runValid fillValid headerBegins summariesGood summaryGood starting
 worked-by-hand =
     record {
       line-b4 = refl;

@@ -18,12 +18,12 @@ use Rattle.run.specs.Conditions.{runValid}
 use Rattle.run.specs.declared.Position.{Position}
 use Rattle.run.specs.declared.Position.the-variants.{Line, Stop}
 use Rattle.poll.specs.Poll.{pollAt, pollRun}
-use Rattle.board.specs.State.{stateValid}
 use Rattle.board.specs.Calls.{starting, polled}
 use Rattle.board.specs.History.{Call, start, poll, Event, eventsOf}
 use Rattle.theorems.specs.Timing.{known, dueFrom, Watch, Observed, noRun, aRun, watchAtStart, nowAt, dueNext, observedAfter}
 use Rattle.theorems.specs.Past.{itemsFrom}
 use Rattle.theorems.proofs.Worked.{small, smallMemory, tickAt}
+use Rattle.store.specs.Conditions.{keepsRules}
 
 -- all up to a place was handed out, the last of it at a moment that has this reading, F being 0
 abbrev watchedAt : (reading moment : ℕ) → Position → Watch
@@ -66,7 +66,7 @@ pub record WorkedTimes : Type 0 where
   pub next-due : dueNext 0 fourPolls ≡ 21
 
 pub worked-times : WorkedTimes
-unfolding stateValid settingsGood stepOf writeOf waitOf requiredData dataLength channelData gateSourceLevel stepFrom clockRefused polled pollRun pollAt dueOf runValid fillValid headerBegins summariesGood summaryGood starting nextPosition
+unfolding keepsRules settingsGood stepOf writeOf waitOf requiredData dataLength channelData gateSourceLevel stepFrom clockRefused polled pollRun pollAt dueOf runValid fillValid headerBegins summariesGood summaryGood starting nextPosition
 worked-times =
     record {
       wait-14 = refl;

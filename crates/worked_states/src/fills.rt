@@ -3,8 +3,8 @@
 use crate::made;
 use bitmap::Palette;
 use board::State;
-use board::Store;
 use fill::Fill;
+use store::Store;
 
 // The state with another fill.
 fn with_fill(state: State, fill: Fill) -> State {

@@ -1,15 +1,15 @@
 // States that a caller made up: at the end of passed time, and for each condition of STATE.md on the settings file, the slots and a
 // run some that break only it (`condition`) and some that just keep it (`kept`).
-use crate::rooms;
-use crate::tell;
 use board::State;
-use board::Store;
 use run::Passed;
 use run::Phase;
 use run::Position;
 use run::Run;
 use run::Tick;
 use settings::Settings;
+use store::Store;
+use worked::rooms;
+use worked::tell;
 
 // Panel 1.44"; start steps: a wait of 5 ms, a write of 01, a write of 04; stop steps: a write of 03, a wait of 15 ms.
 const FILE: [u8; 26] = [

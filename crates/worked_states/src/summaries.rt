@@ -2,7 +2,7 @@
 // A store with no run refuses a poll with 9 where it keeps them. It has slots 0 and 1, of 128 x 96 dots.
 use crate::made;
 use board::State;
-use board::Store;
+use store::Store;
 use summary::Span;
 use summary::Summary;
 

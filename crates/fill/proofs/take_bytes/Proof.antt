@@ -2,13 +2,14 @@
 -- Assumes nothing.
 use mathlib.Core.Path.{_≡_, refl, _∙_}
 use mathlib.Core.List.{[]}
-use Prim.Native.Nat.{_+_, _-_, _*_, _≤_, _<_}
+use Prim.Native.Nat.{ℕ, _+_, _-_, _*_, _≤_, _<_}
 use native.Mathlib.Omega.{arith}
 use borrow.Author.Needs.{needs}
 use lib.ListN.{length, drop, drop-of-length-le}
-use Rattle.bitmap.proofs.Check.{rows-small}
+use Rattle.fill.specs.Fills.{keptCount}
+use Rattle.fill.specs.Facts.{partLength}
 use Rattle.fill.specs.Feeding.{bytesFed}
-use Rattle.fill.proofs.Taken.{piece-length, rest-length, piece-counted, none-kept, piece-next, rows-next}
+use Rattle.fill.proofs.Taken.{piece-length, rest-length, piece-counted, none-kept, piece-next, rows-next, some-taken, taken-fits, taken-room, piece-fits, left-fits, next-fits, less-left, all-counted, came-fits, index-fits}
 use Rattle.fill.proofs.take_bytes.Statement.{statement}
 use Rattle.fill.proofs.take_bytes.Tie as tie
 
@@ -28,6 +29,34 @@ part-length-requires c κs = search needs
 
 kept-count-requires : tie.Need-kept-count-requires Inv-loop μ-loop
 kept-count-requires c κs = search needs
+
+-- past the three calls: the bytes of the next piece
+module _ (c : tie.After-least Inv-loop μ-loop) where
+  abbrev i : ℕ
+  i = c .before .before .before .before .loop .i
+
+  abbrev n : ℕ
+  n = c .least .result
+
+  abbrev all : ℕ
+  all = length (c .before .before .before .before .before .before .before .args .chunk .now)
+
+  lacks : c .before .kept-count .result < c .before .before .part-length .result
+  lacks = rw (c .before .before .part-length .ensures) (c .before .kept-count .ensures .1)
+
+  pos : 0 < n
+  pos = some-taken i all _ _ n (c .before .before .before .loop-test .taken) lacks (c .least .ensures)
+
+  fits : i + n ≤ all
+  fits = taken-fits i all _ _ n (c .before .before .before .loop-test .taken) lacks (c .least .ensures)
+
+  room :
+      let l = c .before .before .before .before .loop in
+      let s = c .before .before .before .before .before .before .before .args .s in
+      keptCount s (l .here .came) + n ≤ partLength s (l .here .came)
+  room =
+      taken-room i all _ _ n (c .before .before .before .loop-test .taken) lacks (c .least .ensures) _ _ (c .before .kept-count .ensures .0)
+      (c .before .before .part-length .ensures)
 
 sub-lacks : tie.Need-sub-lacks Inv-loop μ-loop
 sub-lacks c = omega (arith, c .before .part-length .ensures, c .kept-count .ensures .1)
@@ -55,28 +84,35 @@ take-piece-requires c κs =
     let q = c .before .before in
     let l = q .before .before .before .before .loop in
     let s = q .before .before .before .before .before .before .before in
-    let lent = piece-length (l .i) (q .least .result) (s .args .chunk .now) (omega (arith, q .least .ensures)) in
-    let some = q .before .kept-count .ensures in
-    let lacks = q .before .before .part-length .ensures in (
+    let lent = piece-length (i q) (n q) (s .args .chunk .now) (fits q) in (
       s .pre .0,
       s .pre .1,
       s .pre .2,
       s .pre .3,
       s .pre .4,
       l .inv .1,
-      omega (arith, lent, q .least .ensures, lacks, some .0, some .1),
-      omega (arith, lent, q .least .ensures),
-      omega (arith, lent, q .least .ensures, lacks, some .1),
+      rw lent (room q),
+      rw lent (piece-fits (s .args .h) (s .args .s) (s .args .fill .came) (all q) (i q) (n q) (l .here .came) (s .pre .6) (l .inv .2) (fits q)),
+      rw lent (pos q),
     )
 
 sub-take-rows : tie.Need-sub-take-rows Inv-loop μ-loop
-sub-take-rows c = omega (arith, c .before .before .before .before .before .least .ensures)
+sub-take-rows c = fits (c .before .before .before .before .before)
 
 part-take-rows-start : tie.Need-part-take-rows-start Inv-loop μ-loop
-part-take-rows-start c = omega (arith, c .before .before .before .before .before .least .ensures)
+part-take-rows-start c = fits (c .before .before .before .before .before)
 
 part-take-rows-end : tie.Need-part-take-rows-end Inv-loop μ-loop
 part-take-rows-end c = search needs
+
+-- past the piece: how many bytes have come
+came : (c : tie.After-take-piece Inv-loop μ-loop)
+    → let q = c .before .before .before in c .take-piece .result .came ≡ q .before .before .before .before .loop .here .came + n q
+came c =
+    let q = c .before .before .before in
+    let l = q .before .before .before .before .loop in
+    let a = q .before .before .before .before .before .before .before .args in
+    piece-counted (a .b) (a .h) (a .s) (a .chunk .now) (i q) (n q) (l .here) (c .take-piece .result) (l .raw) _ (fits q) (c .take-piece .ensures .0)
 
 take-rows-requires : tie.Need-take-rows-requires Inv-loop μ-loop
 take-rows-requires c κs =
@@ -85,76 +121,69 @@ take-rows-requires c κs =
     let l = q .before .before .before .before .loop in
     let s = q .before .before .before .before .before .before .before in
     let a = s .args in
-    let n = q .least .result in
-    let fits : l .i + n ≤ length (a .chunk .now) = omega (arith, q .least .ensures) in
-    let left = rest-length (l .i + n) (a .chunk .now) in
-    let step = p .take-piece in
-    let came = piece-counted (a .b) (a .h) (a .s) (a .chunk .now) (l .i) n (l .here) (step .result) (l .raw) _ fits (step .ensures .0) in
-    (s .pre .0, s .pre .1, s .pre .2, s .pre .3, s .pre .4, search needs, omega (arith, came, left, l .inv .2, s .pre .6))
+    let left = rest-length (i q + n q) (a .chunk .now) in
+    let whole =
+    left-fits (a .h) (a .s) (a .fill .came) (all q) (i q) (n q) (l .here .came) (s .pre .6) (l .inv .2) (p .take-piece .result .came) (came p)
+    _ left (fits q) in
+    (s .pre .0, s .pre .1, s .pre .2, s .pre .3, s .pre .4, search needs, whole)
+
+-- past the rows: where the next piece begins
+more : (c : tie.After-take-rows Inv-loop μ-loop)
+    → let q = c .before .before .before .before .before .before .before .before in i q + n q + c .take-rows .result ≤ all q
+more c =
+    let q = c .before .before .before .before .before .before .before .before in
+    let left = rest-length (i q + n q) (q .before .before .before .before .before .before .before .args .chunk .now) in
+    next-fits (all q) (i q + n q) (c .take-rows .result) (fits q) (rw left at (c .take-rows .ensures .0))
 
 add-here : tie.Need-add-here Inv-loop μ-loop
 add-here c =
-    let p = c .before .before .before .before .before .before .before .before in
+    let r = c .before .before .before in
+    let p = r .before .before .before .before .before in
     let q = p .before .before .before in
     let l = q .before .before .before .before .loop in
     let s = q .before .before .before .before .before .before .before in
     let a = s .args in
-    let n = q .least .result in
-    let fits : l .i + n ≤ length (a .chunk .now) = omega (arith, q .least .ensures) in
-    let left = rest-length (l .i + n) (a .chunk .now) in
-    let step = p .take-piece in
-    let came = piece-counted (a .b) (a .h) (a .s) (a .chunk .now) (l .i) n (l .here) (step .result) (l .raw) _ fits (step .ensures .0) in
-    let rows = c .before .before .before .take-rows in
-    let more : l .i + n + rows .result ≤ length (a .chunk .now) = omega (arith, fits, rows .ensures .0, left) in
-    let small = rows-small (a .h) (a .s) (s .pre .4) (s .pre .3) in
-    omega (arith, came, more, small, l .inv .2, s .pre .6)
+    let small =
+    came-fits (a .h) (a .s) (a .fill .came) (all q) (i q) (n q) (l .here .came) (s .pre .6) (l .inv .2) (p .take-piece .result .came) (came p)
+    (r .take-rows .result) (s .pre .4) (s .pre .3) (more r) in
+    omega (arith, small)
 
 add-i : tie.Need-add-i Inv-loop μ-loop
 add-i c =
-    let p = c .before .before .before .before .before .before .before .before in
+    let r = c .before .before .before in
+    let p = r .before .before .before .before .before in
     let q = p .before .before .before in
     let l = q .before .before .before .before .loop in
     let s = q .before .before .before .before .before .before .before in
     let a = s .args in
-    let n = q .least .result in
-    let fits : l .i + n ≤ length (a .chunk .now) = omega (arith, q .least .ensures) in
-    let left = rest-length (l .i + n) (a .chunk .now) in
-    let rows = c .before .before .before .take-rows in
-    let more : l .i + n + rows .result ≤ length (a .chunk .now) = omega (arith, fits, rows .ensures .0, left) in
-    let small = rows-small (a .h) (a .s) (s .pre .4) (s .pre .3) in
-    omega (arith, more, small, s .pre .6)
+    index-fits (a .h) (a .s) (a .fill .came) (all q) (i q) (n q) (l .here .came) (s .pre .6) (l .inv .2) (p .take-piece .result .came) (came p)
+    (r .take-rows .result) (s .pre .4) (s .pre .3) (more r)
 
 loop-less : tie.Need-loop-less Inv-loop μ-loop
 loop-less c =
-    let q = c .before .before .before .before .before .before .before .before .before .before .before in
-    omega (arith, q .least .ensures, q .before .before .part-length .ensures, q .before .kept-count .ensures .1)
+    let r = c .before .before .before in
+    let q = r .before .before .before .before .before .before .before .before in
+    less-left (all q) (i q) (n q) (r .take-rows .result) (pos q) (more r)
 
 loop-again : tie.Need-loop-again Inv-loop μ-loop
 loop-again c =
-    let p = c .before .before .before .before .before .before .before .before in
+    let r = c .before .before .before in
+    let p = r .before .before .before .before .before in
     let q = p .before .before .before in
     let l = q .before .before .before .before .loop in
     let s = q .before .before .before .before .before .before .before in
     let a = s .args in
-    let n = q .least .result in
-    let fits : l .i + n ≤ length (a .chunk .now) = omega (arith, q .least .ensures) in
-    let left = rest-length (l .i + n) (a .chunk .now) in
     let step = p .take-piece in
-    let came = piece-counted (a .b) (a .h) (a .s) (a .chunk .now) (l .i) n (l .here) (step .result) (l .raw) _ fits (step .ensures .0) in
-    let rows = c .before .before .before .take-rows in
-    let more : l .i + n + rows .result ≤ length (a .chunk .now) = omega (arith, fits, rows .ensures .0, left) in
-    let some = q .before .kept-count .ensures in
-    let lacks = q .before .before .part-length .ensures in
-    let pos : 0 < n = omega (arith, q .least .ensures, lacks, some .1, q .before .before .before .loop-test .taken) in
-    let counted : step .result .came + rows .result ≡ a .fill .came + (l .i + n + rows .result) = omega (arith, came, l .inv .2) in (
-      more,
+    let rows = r .take-rows in (
+      more r,
       c .before .before .raw2 .given ∙ c .before .before .before .before .before .before .before .raw .given ∙ l .inv .1,
-      counted,
-      rows-next (a .b) (a .h) (a .s) (a .chunk .now) (l .i + n) (rows .result) (step .result) _ _
+      all-counted (a .h) (a .s) (a .fill .came) (all q) (i q) (n q) (l .here .came) (s .pre .6) (l .inv .2) (step .result .came) (came p)
+          (rows .result),
+      rows-next (a .b) (a .h) (a .s) (a .chunk .now) (i q + n q) (rows .result) (step .result) _ _
           (λ any. none-kept (a .b) (a .h) (a .s) (l .here) (step .result) (l .raw) _ _ (step .ensures .0) (rows .ensures .1 any))
           (rows .ensures .2)
-          ∙ piece-next (a .b) (a .h) (a .s) (omega arith) (omega arith) (a .chunk .now) (l .i) n (l .here) _ (l .raw) _ pos fits
-          (step .ensures .1) (omega (arith, q .least .ensures, lacks, some .0, some .1)) (step .ensures .0)
+          ∙ piece-next (a .b) (a .h) (a .s) (omega arith) (omega arith) (a .chunk .now) (i q) (n q) (l .here) _ (l .raw) _ (pos q) (fits q)
+          (step .ensures .1) (room q) (step .ensures .0)
           ∙ l .inv .3,
     )
 

@@ -1,7 +1,7 @@
 -- Each turn takes in one row more.
 -- Assumes nothing.
 use mathlib.Core.Path.{_≡_}
-use Prim.Native.Nat.{ℕ, suc, _+_, _-_, _*_, _≤_}
+use Prim.Native.Nat.{ℕ, suc, _+_, _-_, _*_, _≤_, _<_}
 use native.Mathlib.Nat.{zero-mul}
 use native.Mathlib.Omega.{arith}
 use borrow.Author.Needs.{needs}
@@ -35,31 +35,39 @@ returns c =
       λ slot. rows-none (a .b) (a .h) (a .s) slot (a .palette) (a .came) (a .rows .now) (a .raw .now),
     )
 
+-- past the test: there are rows, they begin where a row begins, and the picture has room for them
+module _ (c : tie.Else1 Inv-loop μ-loop) where
+  some : (0 < c .before .before .before .before .args .s) × (0 < c .before .whole-rows .result)
+  some = (omega arith, omega arith)
+
+  at : let a = c .before .before .before .before .args in a .came ≡ headerLength + rowsCome (a .s) (a .came) * a .s
+  at =
+      let a = c .before .before .before .before .args in
+      let begin = c .before .whole-rows .ensures .1 (some .1) in
+      at-row (a .s) (a .came) (some .0) (begin .0) (begin .1)
+
+  room : let a = c .before .before .before .before .args in rowsCome (a .s) (a .came) + c .before .whole-rows .result ≤ a .h
+  room =
+      let a = c .before .before .before .before .args in
+      rows-room (a .h) (a .s) (a .came) (c .before .whole-rows .result) (some .0) at (omega (arith, c .before .whole-rows .ensures .0))
+
 sub-top : tie.Need-sub-top Inv-loop μ-loop
-sub-top c = c .before .whole-rows .ensures .1 (omega arith) .0
+sub-top c = c .before .whole-rows .ensures .1 (some c .1) .0
 
 div-top : tie.Need-div-top Inv-loop μ-loop
-div-top c = omega arith
+div-top c = some c .0
 
 sub-top-2 : tie.Need-sub-top-2 Inv-loop μ-loop
-sub-top-2 c =
-    let a = c .before .before .before .before .args in
-    let rows = c .before .whole-rows .ensures in
-    let begin = rows .1 (omega arith) in
-    let at = at-row (a .s) (a .came) (omega arith) (begin .0) (begin .1) in
-    omega (arith, rows-room (a .h) (a .s) (a .came) (c .before .whole-rows .result) (omega arith) at (omega (arith, rows .0)))
+sub-top-2 c = omega (arith, room c)
 
 loop-holds : tie.Need-loop-holds Inv-loop μ-loop
 loop-holds c =
     let s = (c .before .before .before .before) in
-    let a = s .args in
-    let rows = c .before .whole-rows .ensures in
-    let begin = rows .1 (omega arith) in
-    let at = at-row (a .s) (a .came) (omega arith) (begin .0) (begin .1) in (
+    let a = s .args in (
       omega arith,
       s .pre .5,
-      at,
-      rows-room (a .h) (a .s) (a .came) (c .before .whole-rows .result) (omega arith) at (omega (arith, rows .0)),
+      at c,
+      room c,
       λ slot. rw zero-mul (rows-none (a .b) (a .h) (a .s) slot (a .palette) (a .came) (a .rows .now) (a .raw .now)),
     )
 

@@ -1,6 +1,7 @@
 -- Place k is part k % 4 of repeat k / 4 + 1.
 -- Assumes nothing.
-use mathlib.Core.Path.{refl}
+use mathlib.Core.Path.{_≡_, refl}
+use Prim.Native.Nat.{_+_}
 use native.Mathlib.Omega.{arith}
 use borrow.Author.Needs.{needs}
 use Rattle.finish_panel.proofs.Order.{turn-le, stage-at}
@@ -24,48 +25,32 @@ returns c =
 add-phase : tie.Need-add-phase
 add-phase c = search needs
 
-shared-slice-read-phase : tie.Need-shared-slice-read-phase
-shared-slice-read-phase c = search needs
+phase-requires : tie.Need-phase-requires
+phase-requires c κs =
+    let a = c .before .before .before .args in
+    (omega arith, omega (arith, turn-le (a .otp .now) (a .at) (a .k) (c .before .before .before .pre .1)))
 
 add-phase-2 : tie.Need-add-phase-2
 add-phase-2 c = search needs
 
-shared-slice-read-phase-2 : tie.Need-shared-slice-read-phase-2
-shared-slice-read-phase-2 c = search needs
-
-phase-requires : tie.Need-phase-requires
-phase-requires c κs =
-    let a = c .before .before .before .before .before .args in
-    omega (arith, turn-le (a .otp .now) (a .at) (a .k) (c .before .before .before .before .before .pre .1))
-
-add-phase-3 : tie.Need-add-phase-3
-add-phase-3 c = search needs
-
-shared-slice-read-phase-3 : tie.Need-shared-slice-read-phase-3
-shared-slice-read-phase-3 c = search needs
-
-add-phase-4 : tie.Need-add-phase-4
-add-phase-4 c = search needs
-
-shared-slice-read-phase-4 : tie.Need-shared-slice-read-phase-4
-shared-slice-read-phase-4 c = search needs
-
 phase-requires-2 : tie.Need-phase-requires-2
 phase-requires-2 c κs =
-    let a = c .before .before .before .before .before .before .before .before .args in
-    omega (arith, turn-le (a .otp .now) (a .at) (a .k) (c .before .before .before .before .before .before .before .before .pre .1))
+    let a = c .before .before .before .before .args in
+    (omega arith, omega (arith, turn-le (a .otp .now) (a .at) (a .k) (c .before .before .before .before .pre .1)))
 
 returns-2 : tie.Need-returns-2
 returns-2 c =
-    let a = c .before .before .before .before .before .before .before .before .before .args in
-    let here = stage-at (a .otp .now) (a .at) (a .k) 1 (c .before .before .before .before .before .before .before .before .before .pre .1) (omega arith) in
-    record { within = refl; is = λ _ _ _. rw (c .before .before .before .phase .ensures, c .phase2 .ensures) here }
+    let a = c .before .before .before .before .before .args in
+    let here = stage-at (a .otp .now) (a .at) (a .k) 1 (c .before .before .before .before .before .pre .1) (omega arith) in
+    let low : a .at + 1 + 2 ≡ a .at + 3 = omega arith in
+    let high : a .at + 2 + 2 ≡ a .at + 4 = omega arith in
+    record { within = refl; is = λ _ _ _. rw (c .before .phase .ensures, c .phase2 .ensures, low, high) here }
 
-add-t23 : tie.Need-add-t23
-add-t23 c = search needs
+add-t14 : tie.Need-add-t14
+add-t14 c = search needs
 
-shared-slice-read-t25 : tie.Need-shared-slice-read-t25
-shared-slice-read-t25 c = search needs
+shared-slice-read-t16 : tie.Need-shared-slice-read-t16
+shared-slice-read-t16 c = search needs
 
 returns-3 : tie.Need-returns-3
 returns-3 c =
@@ -96,18 +81,12 @@ stage-step-spec =
     shared-slice-read-t12
     returns
     add-phase
-    shared-slice-read-phase
-    add-phase-2
-    shared-slice-read-phase-2
     phase-requires
-    add-phase-3
-    shared-slice-read-phase-3
-    add-phase-4
-    shared-slice-read-phase-4
+    add-phase-2
     phase-requires-2
     returns-2
-    add-t23
-    shared-slice-read-t25
+    add-t14
+    shared-slice-read-t16
     returns-3
     add-low-seven
     shared-slice-read-low-seven

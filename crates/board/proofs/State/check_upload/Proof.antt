@@ -1,7 +1,7 @@
 -- `check_upload`: the store's cases, then those of an upload. Assumes nothing.
-use Rattle.board.proofs.Tests.{more-found}
-use Rattle.board.specs.State.{storeCases}
-use Rattle.board.specs.Calls.{uploadOwn}
+use Rattle.store.specs.Refusals.{uploadOwn}
+use Rattle.store.proofs.Cases.{more-found}
+use Rattle.board.specs.State.{fileOf, storeCases}
 use mathlib.Core.Path.{refl}
 use borrow.Author.Needs.{needs}
 use Rattle.board.proofs.State.check_upload.Statement.{statement}
@@ -16,7 +16,7 @@ upload-number-requires c κs = search needs
 returns : tie.Need-returns
 returns c =
     let a = c .before .before .before .before .args in
-    more-found (a .self) (storeCases (a .self) (a .memory-len)) (uploadOwn (a .self .store) (a .slot)) (c .before .before .before .check .ensures) refl (c .upload-number .ensures)
+    more-found (fileOf (a .self)) (storeCases (a .self) (a .memory-len)) (uploadOwn (a .self .store) (a .slot)) (c .before .before .before .check .ensures) refl (c .upload-number .ensures)
 
 pub check-upload-spec : {M : Type 1} → statement M
 check-upload-spec = tie.close (tie.spec check-requires upload-number-requires returns)

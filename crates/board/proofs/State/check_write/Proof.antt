@@ -1,8 +1,9 @@
 -- `check_write`: the store's cases, then those of the writer. Assumes nothing.
 use mathlib.Core.Path.{refl}
-use Rattle.board.specs.State.{storeCases, sizesOf}
-use Rattle.board.specs.Calls.{writeOwn}
-use Rattle.board.proofs.Tests.{first-found, write-found}
+use Rattle.store.specs.Refusals.{writeOwn}
+use Rattle.store.proofs.Cases.{first-found}
+use Rattle.board.specs.State.{fileOf, storeCases, sizesOf}
+use Rattle.board.proofs.Tests.{write-found}
 use borrow.Author.Needs.{needs}
 use Rattle.board.proofs.State.check_write.Statement.{statement}
 use Rattle.board.proofs.State.check_write.Tie as tie
@@ -13,7 +14,7 @@ check-requires c κs = search needs
 returns : tie.Need-returns
 returns c =
     let a = c .before .before .before .args in
-    first-found (a .self) (storeCases (a .self) (a .memory-len)) (writeOwn (a .self .store) (sizesOf (a .self)) (a .slot) (a .out-len)) (c .before .before .check .ensures) (c .if1 .taken)
+    first-found (fileOf (a .self)) (storeCases (a .self) (a .memory-len)) (writeOwn (a .self .store) (sizesOf (a .self)) (a .slot) (a .out-len)) (c .before .before .check .ensures) (c .if1 .taken)
 
 write-number-requires : tie.Need-write-number-requires
 write-number-requires c κs = c .before .before .before .before .check .ensures .plan (c .before .before .if1 .left) .sized

@@ -2,9 +2,9 @@
 use mathlib.Core.Path.{refl}
 use lib.ListN.{length}
 use denote.Ref.{now}
+use Rattle.store.specs.Refusals.{startOwn}
+use Rattle.store.proofs.Numbers.{after-cases}
 use Rattle.board.specs.State.{storeCases}
-use Rattle.board.specs.Calls.{startOwn}
-use Rattle.board.proofs.Numbers.{after-cases}
 use Rattle.board.proofs.Replies.{start-refused, start-accepted}
 use borrow.Author.Needs.{needs}
 use Rattle.board.proofs.State.start.Statement.{statement}

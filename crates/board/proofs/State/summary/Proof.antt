@@ -1,8 +1,8 @@
 -- `summary`, by its number. Assumes nothing.
 use mathlib.Core.Path.{refl}
+use Rattle.store.specs.Refusals.{summaryOwn}
+use Rattle.store.proofs.Numbers.{after-cases}
 use Rattle.board.specs.State.{stateCases}
-use Rattle.board.specs.Calls.{summaryOwn}
-use Rattle.board.proofs.Numbers.{after-cases}
 use Rattle.board.proofs.Tests.{told-place}
 use Rattle.board.proofs.Replies.{summary-refused, summary-told}
 use borrow.Author.Needs.{needs}

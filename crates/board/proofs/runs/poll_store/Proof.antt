@@ -3,10 +3,10 @@ use mathlib.Core.Path.{ap, _∙_}
 use native.Mathlib.Omega.{arith}
 use Rattle.run.proofs.Valid.{valid-ready}
 use Rattle.run.specs.declared.Phase.the-variants.{Idle, Abandoned, Running}
+use Rattle.store.proofs.Conditions.{file-length, run-of, valid-state}
 use Rattle.board.specs.State.{fileOf}
 use Rattle.board.specs.Calls.{inState}
 use Rattle.board.specs.Facts.{stateOf}
-use Rattle.board.proofs.States.{file-length, run-of}
 use Rattle.board.proofs.Tests.{store-tested, room}
 use Rattle.board.proofs.Replies.{poll-refused, poll-in, poll-left}
 use borrow.Author.Needs.{needs}
@@ -35,7 +35,7 @@ slice-aggregate-poll-run : tie.Need-slice-aggregate-poll-run
 slice-aggregate-poll-run c =
     let a = c .before .before .before .before .before .before .before .before .before .before .args in
     let s = stateOf (a .file .now) (a .len) (a .store) in
-    file-length s (store-tested s _ (c .before .before .before .before .before .before .check-store .ensures) (c .before .before .before .before .if1 .left) .valid)
+    file-length (valid-state (store-tested s _ (c .before .before .before .before .before .before .check-store .ensures) (c .before .before .before .before .if1 .left) .valid))
 
 poll-run-requires : tie.Need-poll-run-requires
 poll-run-requires c κs =
@@ -45,7 +45,7 @@ poll-run-requires c κs =
     let zero = c .before .before .before .before .before .before .if1 .left in
     let t = store-tested s _ found zero in
     let run = c .before .before .before .before .phase .given .0 .0 in
-    let valid = run-of s run (t .valid) (c .before .before .before .before .phase .given .1) in (
+    let valid = run-of (valid-state (t .valid)) (c .before .before .before .before .phase .given .1) in (
       found .plan zero,
       valid-ready (fileOf s) (a .store .slots) run valid (run .passed) (omega arith),
       room s run (a .memory .now) valid t,
@@ -57,7 +57,7 @@ leave-requires c κs =
     let s = stateOf (a .file .now) (a .len) (a .store) in
     let t = store-tested s _ (c .before .before .before .before .before .before .before .before .before .before .before .before .before .check-store .ensures) (c .before .before .before .before .before .before .before .before .before .before .before .if1 .left) in
     let run = c .before .before .before .before .before .before .before .before .before .phase .given .0 .0 in
-    room s run (a .memory .now) (run-of s run (t .valid) (c .before .before .before .before .before .before .before .before .before .phase .given .1)) t .slot-in .few
+    room s run (a .memory .now) (run-of (valid-state (t .valid)) (c .before .before .before .before .before .before .before .before .before .phase .given .1)) t .slot-in .few
 
 returns-2 : tie.Need-returns-2
 returns-2 c =
