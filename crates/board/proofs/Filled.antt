@@ -14,7 +14,7 @@ use Rattle.panel.proofs.Panels.{size-of}
 use Rattle.settings.specs.Settings.{panelOf}
 use Rattle.settings.proofs.Accepted.{good-panel}
 use Rattle.picture.specs.Slots.{pictureOf, slotBytes, slotPicture}
-use Rattle.picture.proofs.Slots.{slot-fits, length-with, bytes-same, bytes-other}
+use Rattle.picture.proofs.Slots.{slot-fits, bytes-other}
 use Rattle.lists.specs.Rules.{case, firstOf}
 use Rattle.lists.proofs.Parts.{part-length}
 use Rattle.lists.proofs.Rules.{by-test}
@@ -167,13 +167,7 @@ module _ (state : State) (memory : List ℕ) (t : Tested state (length memory)) 
     left-length : length left ≡ h * b
     left-length = act-length kind sized (valid-state (t .valid) .fill-good) (slotBytes b h memory slot) filled-length
 
-    -- the memory stays as long as it is, the slot holds what is left, and every other slot what it held
-    pub filled-memory : length (filledTo state memory call act writes .memory) ≡ length memory
-    filled-memory = length-with b h memory slot filled-inside left left-length
-
-    pub filled-bytes : slotBytes b h (filledTo state memory call act writes .memory) slot ≡ left
-    filled-bytes = bytes-same b h memory slot filled-inside left left-length
-
+    -- every other slot holds what it held
     pub filled-others : (u : ℕ) → (u ≡ slot → ⊥) → slotPicture b h (filledTo state memory call act writes .memory) u ≡ slotPicture b h memory u
     unfolding slotPicture
     filled-others u n = ap (pictureOf b h) (bytes-other b h memory slot filled-inside left left-length u n)
