@@ -170,7 +170,7 @@ def constructors(name):
 def asks_nothing(name):
     """Whether proofs/Tied.antt says of a method of State that it asks nothing."""
     tied = read(os.path.join(BOARD, "proofs", "Tied.antt"))
-    alias = re.search(r"\.proofs\.State\.%s as (\w+)-fn\n" % name, tied)
+    alias = re.search(r"\.proofs\.State\.%s\.Reads as (\w+)-reads\n" % name, tied)
     return bool(alias) and "%s-reads.Asked\n" % alias[1] in tied
 
 

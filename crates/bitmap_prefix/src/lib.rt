@@ -2,7 +2,6 @@
 // bytes apart.
 ghost use mathlib.Core.Path.{_≡_};
 ghost use Prim.Native.Nat.{_+_, _≤_};
-ghost use Rattle.bitmap.specs.Palettes.{black, white};
 ghost use Rattle.bitmap_prefix.specs.Begins.{
   numberBegins,
   fieldBegins,

@@ -1,8 +1,8 @@
 -- What a call on the store does, as far as theorems over every list of calls see it. Each call is shown to be one of these effects; what
 -- holds of every effect then holds of every call.
 -- Assumes nothing.
-use mathlib.Core.Path.{_≡_, refl, _∙_, subst}
-use mathlib.Core.Bool.{Bool, true, false, false≢true}
+use mathlib.Core.Path.{_≡_, refl, subst}
+use mathlib.Core.Bool.{Bool, true, false}
 use mathlib.Core.List.{List, [], _++_}
 use Prim.Native.Nat.{ℕ, _-_, _*_, _≤_, _<_}
 use borrow.Author.Tests.{ltb-true, ltb-false}

@@ -1,7 +1,7 @@
 -- Every effect of a call is one move of crate balance: refusals, waits, writes, uploads and fills push nothing, a line is the next draw, and done
 -- leaves the run at rest.
 -- Assumes nothing.
-use mathlib.Core.Path.{_≡_, refl, sym, _∙_, subst}
+use mathlib.Core.Path.{_≡_, refl, sym, subst}
 use mathlib.Core.Bool.{true, false, cond, false≢true}
 use mathlib.Core.List.{List, [], _∷_}
 use Prim.Native.Nat.{ℕ, _+_, _-_, _*_, _≤_}

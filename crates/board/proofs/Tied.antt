@@ -4,9 +4,6 @@
 use mathlib.Core.Path.{_≡_, refl, sym, ap, _∙_, subst}
 use mathlib.Core.List.{List, [], _∷_}
 use Prim.Native.Nat.{ℕ}
-use borrow.Fn.World as World
-use borrow.Fn.Kinds as FnKinds
-use denote.Triple.Clauses as Clauses
 use denote.Ref.{now}
 use Rattle.lists.proofs.Calls as made
 use Rattle.settings.specs.Settings.{rowBytesIn, rowsIn}
@@ -20,104 +17,68 @@ use Rattle.board.specs.Balance.{Balanced}
 use Rattle.board.specs.declared.State.{State}
 use Rattle.board.specs.declared.Reply.{Reply}
 use Rattle.board.proofs.Demand3.{demand3}
-use Rattle.board.proofs.open as open-fn
 use Rattle.board.proofs.open.Kinds as open-kinds
 use Rattle.board.proofs.open.Reads as open-reads
-use Rattle.board.proofs.State.upload_region as region-fn
 use Rattle.board.proofs.State.upload_region.Kinds as region-kinds
 use Rattle.board.proofs.State.upload_region.Reads as region-reads
-use Rattle.board.proofs.State.upload_bitmap as bitmap-fn
 use Rattle.board.proofs.State.upload_bitmap.Kinds as bitmap-kinds
 use Rattle.board.proofs.State.upload_bitmap.Reads as bitmap-reads
-use Rattle.board.proofs.State.begin_fill as begin-fn
 use Rattle.board.proofs.State.begin_fill.Kinds as begin-kinds
 use Rattle.board.proofs.State.begin_fill.Reads as begin-reads
-use Rattle.board.proofs.State.feed_fill as feed-fn
 use Rattle.board.proofs.State.feed_fill.Kinds as feed-kinds
 use Rattle.board.proofs.State.feed_fill.Reads as feed-reads
-use Rattle.board.proofs.State.finish_fill as finish-fn
 use Rattle.board.proofs.State.finish_fill.Kinds as finish-kinds
 use Rattle.board.proofs.State.finish_fill.Reads as finish-reads
-use Rattle.board.proofs.State.cancel_fill as cancel-fn
 use Rattle.board.proofs.State.cancel_fill.Kinds as cancel-kinds
 use Rattle.board.proofs.State.cancel_fill.Reads as cancel-reads
-use Rattle.board.proofs.State.write_bitmap as write-fn
 use Rattle.board.proofs.State.write_bitmap.Kinds as write-kinds
 use Rattle.board.proofs.State.write_bitmap.Reads as write-reads
-use Rattle.board.proofs.State.start as start-fn
 use Rattle.board.proofs.State.start.Kinds as start-kinds
 use Rattle.board.proofs.State.start.Reads as start-reads
-use Rattle.board.proofs.State.abandon as abandon-fn
 use Rattle.board.proofs.State.abandon.Kinds as abandon-kinds
 use Rattle.board.proofs.State.abandon.Reads as abandon-reads
-use Rattle.board.proofs.State.summary as summary-fn
 use Rattle.board.proofs.State.summary.Kinds as summary-kinds
 use Rattle.board.proofs.State.summary.Reads as summary-reads
-use Rattle.board.proofs.State.poll as poll-fn
 use Rattle.board.proofs.State.poll.Kinds as poll-kinds
 use Rattle.board.proofs.State.poll.Reads as poll-reads
 
 -- ---- the values of a call: its arguments, its result and its parameters at exit, for which its contract holds
 
 abbrev pub Open : Type 0
-Open =
-    made.Call 2 (World.ArgsD open-fn.signature) (World.ResD open-fn.signature)
-    (Clauses.AtExit (FnKinds.endedOf 2 open-kinds.ps open-kinds.r)) open-reads.Learnt
+Open = made.Call 2 open-kinds.ps open-kinds.r open-reads.Learnt
 
 abbrev pub UploadRegion : Type 0
-UploadRegion =
-    made.Call 2 (World.ArgsD region-fn.signature) (World.ResD region-fn.signature)
-    (Clauses.AtExit (FnKinds.endedOf 2 region-kinds.ps region-kinds.r)) region-reads.Learnt
+UploadRegion = made.Call 2 region-kinds.ps region-kinds.r region-reads.Learnt
 
 abbrev pub UploadBitmap : Type 0
-UploadBitmap =
-    made.Call 2 (World.ArgsD bitmap-fn.signature) (World.ResD bitmap-fn.signature)
-    (Clauses.AtExit (FnKinds.endedOf 2 bitmap-kinds.ps bitmap-kinds.r)) bitmap-reads.Learnt
+UploadBitmap = made.Call 2 bitmap-kinds.ps bitmap-kinds.r bitmap-reads.Learnt
 
 abbrev pub BeginFill : Type 0
-BeginFill =
-    made.Call 1 (World.ArgsD begin-fn.signature) (World.ResD begin-fn.signature)
-    (Clauses.AtExit (FnKinds.endedOf 1 begin-kinds.ps begin-kinds.r)) begin-reads.Learnt
+BeginFill = made.Call 1 begin-kinds.ps begin-kinds.r begin-reads.Learnt
 
 abbrev pub FeedFill : Type 0
-FeedFill =
-    made.Call 2 (World.ArgsD feed-fn.signature) (World.ResD feed-fn.signature)
-    (Clauses.AtExit (FnKinds.endedOf 2 feed-kinds.ps feed-kinds.r)) feed-reads.Learnt
+FeedFill = made.Call 2 feed-kinds.ps feed-kinds.r feed-reads.Learnt
 
 abbrev pub FinishFill : Type 0
-FinishFill =
-    made.Call 1 (World.ArgsD finish-fn.signature) (World.ResD finish-fn.signature)
-    (Clauses.AtExit (FnKinds.endedOf 1 finish-kinds.ps finish-kinds.r)) finish-reads.Learnt
+FinishFill = made.Call 1 finish-kinds.ps finish-kinds.r finish-reads.Learnt
 
 abbrev pub CancelFill : Type 0
-CancelFill =
-    made.Call 1 (World.ArgsD cancel-fn.signature) (World.ResD cancel-fn.signature)
-    (Clauses.AtExit (FnKinds.endedOf 1 cancel-kinds.ps cancel-kinds.r)) cancel-reads.Learnt
+CancelFill = made.Call 1 cancel-kinds.ps cancel-kinds.r cancel-reads.Learnt
 
 abbrev pub Start : Type 0
-Start =
-    made.Call 1 (World.ArgsD start-fn.signature) (World.ResD start-fn.signature)
-    (Clauses.AtExit (FnKinds.endedOf 1 start-kinds.ps start-kinds.r)) start-reads.Learnt
+Start = made.Call 1 start-kinds.ps start-kinds.r start-reads.Learnt
 
 abbrev pub Abandon : Type 0
-Abandon =
-    made.Call 1 (World.ArgsD abandon-fn.signature) (World.ResD abandon-fn.signature)
-    (Clauses.AtExit (FnKinds.endedOf 1 abandon-kinds.ps abandon-kinds.r)) abandon-reads.Learnt
+Abandon = made.Call 1 abandon-kinds.ps abandon-kinds.r abandon-reads.Learnt
 
 abbrev pub Poll : Type 0
-Poll =
-    made.Call 2 (World.ArgsD poll-fn.signature) (World.ResD poll-fn.signature)
-    (Clauses.AtExit (FnKinds.endedOf 2 poll-kinds.ps poll-kinds.r)) poll-reads.Learnt
+Poll = made.Call 2 poll-kinds.ps poll-kinds.r poll-reads.Learnt
 
 abbrev pub WriteBitmap : Type 0
-WriteBitmap =
-    made.Call 2 (World.ArgsD write-fn.signature) (World.ResD write-fn.signature)
-    (Clauses.AtExit (FnKinds.endedOf 2 write-kinds.ps write-kinds.r)) write-reads.Learnt
+WriteBitmap = made.Call 2 write-kinds.ps write-kinds.r write-reads.Learnt
 
 abbrev pub SummaryCall : Type 0
-SummaryCall =
-    made.Call 0 (World.ArgsD summary-fn.signature) (World.ResD summary-fn.signature)
-    (Clauses.AtExit (FnKinds.endedOf 0 summary-kinds.ps summary-kinds.r)) summary-reads.Learnt
+SummaryCall = made.Call 0 summary-kinds.ps summary-kinds.r summary-reads.Learnt
 
 -- ---- the parts of each call: the places of its arguments are named here and nowhere else
 
@@ -220,18 +181,18 @@ lentMemory o = now (o .args .1 .1 .0)
 -- ---- no call asks anything of what it is given: a `requires` that is added to one is refused here
 
 pub record AskNothing : Type 0 where
-  pub opening : made.AsksNothing 2 (World.ArgsD open-fn.signature) open-reads.Asked
-  pub region-upload : made.AsksNothing 2 (World.ArgsD region-fn.signature) region-reads.Asked
-  pub bitmap-upload : made.AsksNothing 2 (World.ArgsD bitmap-fn.signature) bitmap-reads.Asked
-  pub begin-fill : made.AsksNothing 1 (World.ArgsD begin-fn.signature) begin-reads.Asked
-  pub feed-fill : made.AsksNothing 2 (World.ArgsD feed-fn.signature) feed-reads.Asked
-  pub finish-fill : made.AsksNothing 1 (World.ArgsD finish-fn.signature) finish-reads.Asked
-  pub cancel-fill : made.AsksNothing 1 (World.ArgsD cancel-fn.signature) cancel-reads.Asked
-  pub starting : made.AsksNothing 1 (World.ArgsD start-fn.signature) start-reads.Asked
-  pub abandoning : made.AsksNothing 1 (World.ArgsD abandon-fn.signature) abandon-reads.Asked
-  pub polling : made.AsksNothing 2 (World.ArgsD poll-fn.signature) poll-reads.Asked
-  pub writing : made.AsksNothing 2 (World.ArgsD write-fn.signature) write-reads.Asked
-  pub summarising : made.AsksNothing 0 (World.ArgsD summary-fn.signature) summary-reads.Asked
+  pub opening : made.AsksNothing 2 open-kinds.ps open-reads.Asked
+  pub region-upload : made.AsksNothing 2 region-kinds.ps region-reads.Asked
+  pub bitmap-upload : made.AsksNothing 2 bitmap-kinds.ps bitmap-reads.Asked
+  pub begin-fill : made.AsksNothing 1 begin-kinds.ps begin-reads.Asked
+  pub feed-fill : made.AsksNothing 2 feed-kinds.ps feed-reads.Asked
+  pub finish-fill : made.AsksNothing 1 finish-kinds.ps finish-reads.Asked
+  pub cancel-fill : made.AsksNothing 1 cancel-kinds.ps cancel-reads.Asked
+  pub starting : made.AsksNothing 1 start-kinds.ps start-reads.Asked
+  pub abandoning : made.AsksNothing 1 abandon-kinds.ps abandon-reads.Asked
+  pub polling : made.AsksNothing 2 poll-kinds.ps poll-reads.Asked
+  pub writing : made.AsksNothing 2 write-kinds.ps write-reads.Asked
+  pub summarising : made.AsksNothing 0 summary-kinds.ps summary-reads.Asked
 
 pub asks-nothing : AskNothing
 asks-nothing =

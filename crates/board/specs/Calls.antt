@@ -4,8 +4,8 @@
 -- (crate store, specs/Refusals.antt).
 -- Assumes nothing.
 use Prim.Native.Nat.{ℕ}
-use mathlib.Core.Bool.{Bool, true, cond, _&&_, _||_}
-use mathlib.Core.List.{List, [], _∷_, _++_}
+use mathlib.Core.Bool.{Bool, true, cond}
+use mathlib.Core.List.{List, _++_}
 use lib.ListN.{length, getD, set, replicate}
 use Rattle.lists.specs.Rules.{Case, firstOf}
 use Rattle.panel.specs.declared.Shape.{Shape}

@@ -1,7 +1,6 @@
 -- What internal functions say: a state by its parts, what the tests of a call found, and what is put into a slot.
 -- Assumes nothing.
 use Prim.Native.Nat.{ℕ}
-use mathlib.Core.Path.{_≡_}
 use mathlib.Core.Bool.{cond}
 use mathlib.Core.List.{List}
 use lib.Dec.{eqb}

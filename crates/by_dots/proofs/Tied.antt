@@ -4,27 +4,18 @@
 use mathlib.Core.Path.{_≡_, sym, _∙_}
 use mathlib.Core.List.{List}
 use Prim.Native.Nat.{ℕ}
-use borrow.Fn.World as World
-use borrow.Fn.Kinds as FnKinds
-use denote.Triple.Clauses as Clauses
 use denote.Ref.{now}
 use Rattle.lists.proofs.Calls.{Call}
-use Rattle.by_dots.proofs.region_by_bytes as bytes-fn
 use Rattle.by_dots.proofs.region_by_bytes.Kinds as bytes-kinds
 use Rattle.by_dots.proofs.region_by_bytes.Reads as bytes-reads
-use Rattle.by_dots.proofs.region_by_dots as dots-fn
 use Rattle.by_dots.proofs.region_by_dots.Kinds as dots-kinds
 use Rattle.by_dots.proofs.region_by_dots.Reads as dots-reads
 
 abbrev pub ByBytes : Type 0
-ByBytes =
-    Call 2 (World.ArgsD bytes-fn.signature) (World.ResD bytes-fn.signature)
-    (Clauses.AtExit (FnKinds.endedOf 2 bytes-kinds.ps bytes-kinds.r)) bytes-reads.Learnt
+ByBytes = Call 2 bytes-kinds.ps bytes-kinds.r bytes-reads.Learnt
 
 abbrev pub ByDots : Type 0
-ByDots =
-    Call 2 (World.ArgsD dots-fn.signature) (World.ResD dots-fn.signature)
-    (Clauses.AtExit (FnKinds.endedOf 2 dots-kinds.ps dots-kinds.r)) dots-reads.Learnt
+ByDots = Call 2 dots-kinds.ps dots-kinds.r dots-reads.Learnt
 
 -- the places of arguments and results are named here and nowhere else
 pub record SameArguments (c : ByBytes) (d : ByDots) : Type 0 where

@@ -7,14 +7,11 @@ use mathlib.Core.List.{List, _++_}
 use Prim.Native.Nat.{ℕ, zero, suc, _+_, _≤_, _<_}
 use native.Mathlib.Omega.{arith}
 use borrow.Author.Tests.{eq-eqb}
-use borrow.Fn.World as World
-use borrow.Fn.Kinds as FnKinds
-use denote.Triple.Clauses as Clauses
 use denote.Ref.{now}
 use lib.ListN.{length, take}
 use lib.Seq.{take-at}
 use Rattle.lists.specs.Lists.{overlay}
-use Rattle.lists.proofs.Calls.{Call}
+use Rattle.lists.proofs.Calls.{Call, AsksNothing}
 use Rattle.hall_display.specs.Panels.{isDisplay, imageBytes, header}
 use Rattle.hall_display.specs.Commands.{dataIn}
 use Rattle.hall_display.specs.Upload.{putOut}
@@ -26,34 +23,25 @@ use Rattle.hall_display.specs.declared.Reply.{Reply}
 use Rattle.hall_display.proofs.Panels.{header-length}
 use Rattle.hall_display.proofs.Upload.{made-bytes}
 use Rattle.hall_display.proofs.Order.{not-refused, uploaded}
-use Rattle.hall_display.proofs.make_header as header-fn
 use Rattle.hall_display.proofs.make_header.Kinds as header-kinds
 use Rattle.hall_display.proofs.make_header.Reads as header-reads
-use Rattle.hall_display.proofs.upload_command as upload-fn
 use Rattle.hall_display.proofs.upload_command.Kinds as upload-kinds
 use Rattle.hall_display.proofs.upload_command.Reads as upload-reads
-use Rattle.hall_display.proofs.Reader.new as new-fn
 use Rattle.hall_display.proofs.Reader.new.Kinds as new-kinds
 use Rattle.hall_display.proofs.Reader.new.Reads as new-reads
-use Rattle.hall_display.proofs.Reader.reset as reset-fn
 use Rattle.hall_display.proofs.Reader.reset.Kinds as reset-kinds
 use Rattle.hall_display.proofs.Reader.reset.Reads as reset-reads
-use Rattle.hall_display.proofs.Reader.read as read-fn
 use Rattle.hall_display.proofs.Reader.read.Kinds as read-kinds
 use Rattle.hall_display.proofs.Reader.read.Reads as read-reads
-use Rattle.hall_display.proofs.checksum as printed-fn
 use Rattle.hall_display.proofs.checksum.Kinds as printed-kinds
 use Rattle.hall_display.proofs.checksum.Reads as printed-reads
-use Rattle.hall_display.proofs.checksum_by_table as table-fn
 use Rattle.hall_display.proofs.checksum_by_table.Kinds as table-kinds
 use Rattle.hall_display.proofs.checksum_by_table.Reads as table-reads
 
 -- ---- the upload
 
 abbrev pub UploadCall : Type 0
-UploadCall =
-    Call 2 (World.ArgsD upload-fn.signature) (World.ResD upload-fn.signature)
-    (Clauses.AtExit (FnKinds.endedOf 2 upload-kinds.ps upload-kinds.r)) upload-reads.Learnt
+UploadCall = Call 2 upload-kinds.ps upload-kinds.r upload-reads.Learnt
 
 module _ (c : UploadCall) where
   abbrev pub outOf : List ℕ
@@ -89,9 +77,7 @@ upload-tied panel depth image slot good exact small last enough calls asks =
 -- ---- reading
 
 abbrev pub ReadCall : Type 0
-ReadCall =
-    Call 2 (World.ArgsD read-fn.signature) (World.ResD read-fn.signature)
-    (Clauses.AtExit (FnKinds.endedOf 2 read-kinds.ps read-kinds.r)) read-reads.Learnt
+ReadCall = Call 2 read-kinds.ps read-kinds.r read-reads.Learnt
 
 -- what stands after n readings
 abbrev pub readSoFar : Reader → List ℕ → (ℕ → ReadCall) → ℕ → Reply × List ℕ
@@ -120,21 +106,15 @@ read-tied reader memory command reads (suc n) chain e =
 
 -- a reader that was made, and one that was reset
 abbrev pub NewCall : Type 0
-NewCall =
-    Call 0 (World.ArgsD new-fn.signature) (World.ResD new-fn.signature)
-    (Clauses.AtExit (FnKinds.endedOf 0 new-kinds.ps new-kinds.r)) new-reads.Learnt
+NewCall = Call 0 new-kinds.ps new-kinds.r new-reads.Learnt
 
 abbrev pub ResetCall : Type 0
-ResetCall =
-    Call 0 (World.ArgsD reset-fn.signature) (World.ResD reset-fn.signature)
-    (Clauses.AtExit (FnKinds.endedOf 0 reset-kinds.ps reset-kinds.r)) reset-reads.Learnt
+ResetCall = Call 0 reset-kinds.ps reset-kinds.r reset-reads.Learnt
 
 -- ---- the header
 
 abbrev pub HeaderCall : Type 0
-HeaderCall =
-    Call 0 (World.ArgsD header-fn.signature) (World.ResD header-fn.signature)
-    (Clauses.AtExit (FnKinds.endedOf 0 header-kinds.ps header-kinds.r)) header-reads.Learnt
+HeaderCall = Call 0 header-kinds.ps header-kinds.r header-reads.Learnt
 
 -- ---- all of an upload
 
@@ -179,16 +159,35 @@ module _ (panel depth : ℕ) (image : List ℕ) (slot : ℕ) (good : isDisplay p
 -- ---- the checksums
 
 abbrev pub PrintedCall : Type 0
-PrintedCall =
-    Call 1 (World.ArgsD printed-fn.signature) (World.ResD printed-fn.signature)
-    (Clauses.AtExit (FnKinds.endedOf 1 printed-kinds.ps printed-kinds.r)) printed-reads.Learnt
+PrintedCall = Call 1 printed-kinds.ps printed-kinds.r printed-reads.Learnt
 
 abbrev pub TableCall : Type 0
-TableCall =
-    Call 1 (World.ArgsD table-fn.signature) (World.ResD table-fn.signature)
-    (Clauses.AtExit (FnKinds.endedOf 1 table-kinds.ps table-kinds.r)) table-reads.Learnt
+TableCall = Call 1 table-kinds.ps table-kinds.r table-reads.Learnt
 
 -- over any bytes and any start value they are equal
 pub checksums-tied : (p : PrintedCall) (t : TableCall) → p .args .0 ≡ t .args .0 → now (p .args .1 .0) ≡ now (t .args .1 .0)
     → p .result ≡ t .result
 checksums-tied p t start bytes = rw (start, bytes) at (p .promised) ∙ sym (t .promised)
+
+-- ---- none of these calls asks anything of what it is given: a `requires` that is added to one is refused here
+
+pub record AskNothing : Type 0 where
+  pub make-header : AsksNothing 0 header-kinds.ps header-reads.Asked
+  pub upload-command : AsksNothing 2 upload-kinds.ps upload-reads.Asked
+  pub new-reader : AsksNothing 0 new-kinds.ps new-reads.Asked
+  pub reset-reader : AsksNothing 0 reset-kinds.ps reset-reads.Asked
+  pub read-command : AsksNothing 2 read-kinds.ps read-reads.Asked
+  pub checksum : AsksNothing 1 printed-kinds.ps printed-reads.Asked
+  pub checksum-by-table : AsksNothing 1 table-kinds.ps table-reads.Asked
+
+pub asks-nothing : AskNothing
+asks-nothing =
+    record {
+      make-header = λ l args. tt;
+      upload-command = λ l args. tt;
+      new-reader = λ l args. tt;
+      reset-reader = λ l args. tt;
+      read-command = λ l args. tt;
+      checksum = λ l args. tt;
+      checksum-by-table = λ l args. tt;
+    }

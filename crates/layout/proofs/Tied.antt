@@ -4,22 +4,16 @@
 use mathlib.Core.Path.{sym, subst}
 use mathlib.Core.List.{List}
 use Prim.Native.Nat.{ℕ}
-use borrow.Fn.World as World
-use borrow.Fn.Kinds as FnKinds
-use denote.Triple.Clauses as Clauses
 use denote.Ref.{now}
-use Rattle.lists.proofs.Calls as made
+use Rattle.lists.proofs.Calls.{Call, AsksNothing}
 use Rattle.layout.specs.Tiling.{Tiled}
 use Rattle.layout.proofs.Tiling.{layout-tiles}
-use Rattle.layout.proofs.layout as layout-fn
 use Rattle.layout.proofs.layout.Kinds as layout-kinds
 use Rattle.layout.proofs.layout.Reads as layout-reads
 
 -- a call: its arguments, its result and its parameters at exit, for which the contract holds
 abbrev pub Kept : Type 0
-Kept =
-    made.Call 1 (World.ArgsD layout-fn.signature) (World.ResD layout-fn.signature)
-    (Clauses.AtExit (FnKinds.endedOf 1 layout-kinds.ps layout-kinds.r)) layout-reads.Learnt
+Kept = Call 1 layout-kinds.ps layout-kinds.r layout-reads.Learnt
 
 -- the places of its arguments are named here and nowhere else
 abbrev pub panelIn : Kept → ℕ
@@ -30,3 +24,7 @@ listIn c = now (c .args .1 .0)
 
 pub layout-tied : (c : Kept) → Tiled (panelIn c) (c .result)
 layout-tied c = subst (Tiled (panelIn c)) (sym (c .promised)) (layout-tiles (panelIn c) (listIn c))
+
+-- and it asks nothing of what it is given
+pub asks-nothing : AsksNothing 1 layout-kinds.ps layout-reads.Asked
+asks-nothing = λ l args. tt

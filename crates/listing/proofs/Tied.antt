@@ -2,23 +2,17 @@
 -- something of the file, is refused here, even where every function is still proved.
 -- Assumes nothing.
 use mathlib.Core.Path.{_≡_}
-use borrow.Fn.World as World
-use borrow.Fn.Kinds as FnKinds
-use denote.Triple.Clauses as Clauses
 use denote.Ref.{now}
 use Rattle.lists.proofs.Calls.{Call, AsksNothing}
 use Rattle.listing.specs.Listing.{listed}
-use Rattle.listing.proofs.listing_of as listing-fn
 use Rattle.listing.proofs.listing_of.Kinds as listing-kinds
 use Rattle.listing.proofs.listing_of.Reads as listing-reads
 
 abbrev pub ListingOf : Type 0
-ListingOf =
-    Call 1 (World.ArgsD listing-fn.signature) (World.ResD listing-fn.signature)
-    (Clauses.AtExit (FnKinds.endedOf 1 listing-kinds.ps listing-kinds.r)) listing-reads.Learnt
+ListingOf = Call 1 listing-kinds.ps listing-kinds.r listing-reads.Learnt
 
 pub listing-tied : (c : ListingOf) → c .result ≡ listed (now (c .args .0))
 listing-tied c = c .promised
 
-pub asks-nothing : AsksNothing 1 (World.ArgsD listing-fn.signature) listing-reads.Asked
+pub asks-nothing : AsksNothing 1 listing-kinds.ps listing-reads.Asked
 asks-nothing = λ l args. tt

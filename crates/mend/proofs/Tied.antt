@@ -4,9 +4,6 @@
 use mathlib.Core.Path.{_≡_}
 use mathlib.Core.List.{List}
 use Prim.Native.Nat.{ℕ, _≤_}
-use borrow.Fn.World as World
-use borrow.Fn.Kinds as FnKinds
-use denote.Triple.Clauses as Clauses
 use denote.Ref.{now}
 use lib.ListN.{length, take}
 use Rattle.lists.specs.Lists.{overlay}
@@ -17,14 +14,11 @@ use Rattle.mend.specs.Mending.{ZeroPadding}
 use Rattle.mend.specs.Promises.{fullLength, nothingDone, Promised}
 use Rattle.mend.specs.declared.Mended.{Mended}
 use Rattle.mend.proofs.Theorems.{good-file, promised-of}
-use Rattle.mend.proofs.mend as mend-fn
 use Rattle.mend.proofs.mend.Kinds as mend-kinds
 use Rattle.mend.proofs.mend.Reads as mend-reads
 
 abbrev pub MendCall : Type 0
-MendCall =
-    Call 3 (World.ArgsD mend-fn.signature) (World.ResD mend-fn.signature)
-    (Clauses.AtExit (FnKinds.endedOf 3 mend-kinds.ps mend-kinds.r)) mend-reads.Learnt
+MendCall = Call 3 mend-kinds.ps mend-kinds.r mend-reads.Learnt
 
 module _ (c : MendCall) where
   abbrev pub panelOf : ℕ
@@ -57,5 +51,5 @@ module _ (c : MendCall) where
   good-tied e zeros room = rw (good-file panelOf fileOf e zeros outOf listOf room) at (c .promised)
 
 -- and it asks nothing
-pub asks-nothing : AsksNothing 3 (World.ArgsD mend-fn.signature) mend-reads.Asked
+pub asks-nothing : AsksNothing 3 mend-kinds.ps mend-reads.Asked
 asks-nothing = λ l args. tt

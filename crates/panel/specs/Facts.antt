@@ -1,6 +1,6 @@
 -- What internal functions ask of a panel's sizes.
 -- Assumes nothing.
-use Prim.Native.Nat.{ℕ, _%_, _≤_, _<_}
+use Prim.Native.Nat.{_%_, _≤_, _<_}
 use mathlib.Core.Path.{_≡_}
 use Rattle.panel.specs.declared.Shape.{Shape}
 

@@ -1,6 +1,6 @@
 // The tables of the panels, each looked up by number.
 ghost use mathlib.Core.Path.{_≡_};
-ghost use Prim.Native.Nat.{_*_, _-_, _≤_, _<_};
+ghost use Prim.Native.Nat.{_-_, _≤_, _<_};
 ghost use Rattle.panel.specs.Panels.{
   isPanel,
   rowsOf,

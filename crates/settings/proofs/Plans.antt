@@ -3,13 +3,13 @@
 use mathlib.Core.Path.{_≡_, refl, sym, ap, _∙_}
 use mathlib.Core.Bool.{true, false, false≢true}
 use mathlib.Core.List.{List}
-use Prim.Native.Nat.{ℕ, _+_, _≤_, _<_}
+use Prim.Native.Nat.{ℕ, _+_}
 use native.Mathlib.Omega.{arith}
-use lib.ListN.{length, getD, drop}
+use lib.ListN.{getD}
 use Rattle.panel.specs.Panels.{framesOf, shapeOf}
 use Rattle.panel.specs.declared.Shape.{Shape}
 use Rattle.panel.proofs.Panels.{size-of}
-use Rattle.settings.specs.Settings.{Step, stepsOf, panelOf, rowBytesIn, rowsIn, strideIn, shapeIn, startCount, startSteps, stopCount, stopSteps, settingsGood}
+use Rattle.settings.specs.Settings.{panelOf, rowBytesIn, rowsIn, strideIn, shapeIn, startCount, startSteps, stopCount, stopSteps, settingsGood}
 use Rattle.settings.specs.Facts.{StopAt, Accepted}
 use Rattle.settings.specs.Plans.{SectionOf, PlanOf, PlannedFor}
 use Rattle.settings.specs.declared.Plan.{Plan}

@@ -6,7 +6,6 @@ ghost use Rattle.lists.specs.Rules.{every};
 ghost use Rattle.panel.specs.Registers.{dataLength};
 ghost use lib.ListN.{length, getD, drop};
 ghost use Rattle.settings.specs.Settings.{
-  Step,
   write,
   hasPrefix,
   requiredData,

@@ -4,29 +4,22 @@
 use mathlib.Core.Path.{_≡_}
 use mathlib.Core.List.{List}
 use Prim.Native.Nat.{ℕ, _≤_}
-use borrow.Fn.World as World
-use borrow.Fn.Kinds as FnKinds
-use denote.Triple.Clauses as Clauses
 use denote.Ref.{now}
 use lib.IntN.{ℤ}
 use lib.ListN.{length}
-use Rattle.lists.proofs.Calls.{Call}
+use Rattle.lists.proofs.Calls.{Call, AsksNothing}
 use Rattle.finish_panel.specs.Update.{normalGood, fastGood, normalThings, fastThings, Accepted, roomForAll}
 use Rattle.start_board.specs.Finish.{WordsInOrder}
 use Rattle.start_board.proofs.FinishOrder.{normal-words, fast-words}
-use Rattle.start_board.proofs.finish.epd_normal_update as normal-fn
 use Rattle.start_board.proofs.finish.epd_normal_update.Kinds as normal-kinds
 use Rattle.start_board.proofs.finish.epd_normal_update.Reads as normal-reads
-use Rattle.start_board.proofs.finish.epd_fast_update as fast-fn
 use Rattle.start_board.proofs.finish.epd_fast_update.Kinds as fast-kinds
 use Rattle.start_board.proofs.finish.epd_fast_update.Reads as fast-reads
 
 -- ---- normal mode
 
 abbrev pub NormalUpdate : Type 0
-NormalUpdate =
-    Call 3 (World.ArgsD normal-fn.signature) (World.ResD normal-fn.signature)
-    (Clauses.AtExit (FnKinds.endedOf 3 normal-kinds.ps normal-kinds.r)) normal-reads.Learnt
+NormalUpdate = Call 3 normal-kinds.ps normal-kinds.r normal-reads.Learnt
 
 -- a call at a count of an update, with room for every write
 pub record AsksNormal (otp : List ℕ) (temperature : ℤ) (new : List ℕ) (k : ℕ) (c : NormalUpdate) : Type 0 where
@@ -49,9 +42,7 @@ normal-tied otp temperature new a calls asks =
 -- ---- fast mode
 
 abbrev pub FastUpdate : Type 0
-FastUpdate =
-    Call 4 (World.ArgsD fast-fn.signature) (World.ResD fast-fn.signature)
-    (Clauses.AtExit (FnKinds.endedOf 4 fast-kinds.ps fast-kinds.r)) fast-reads.Learnt
+FastUpdate = Call 4 fast-kinds.ps fast-kinds.r fast-reads.Learnt
 
 pub record AsksFast (otp : List ℕ) (temperature : ℤ) (new shown : List ℕ) (k : ℕ) (c : FastUpdate) : Type 0 where
   pub otp-is : now (c .args .0) ≡ otp
@@ -70,3 +61,12 @@ fast-tied otp temperature new shown a calls asks =
     (λ k. now (calls k .exit .1 .1 .1 .1 .1 .0)) shown a
     (λ k h. asks k h .room)
     (λ k h. rw (asks k h .otp-is, asks k h .temperature-is, asks k h .new-is, asks k h .shown-is, asks k h .count-is) at (calls k .promised))
+
+-- ---- none of these calls asks anything of what it is given: a `requires` that is added to one is refused here
+
+pub record AskNothing : Type 0 where
+  pub normal-update : AsksNothing 3 normal-kinds.ps normal-reads.Asked
+  pub fast-update : AsksNothing 4 fast-kinds.ps fast-reads.Asked
+
+pub asks-nothing : AskNothing
+asks-nothing = record { normal-update = λ l args. tt; fast-update = λ l args. tt }

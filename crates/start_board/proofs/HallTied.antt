@@ -6,14 +6,11 @@ use mathlib.Core.Bool.{true}
 use mathlib.Core.List.{List}
 use Prim.Native.Nat.{ℕ, _+_, _≤_, _<_}
 use borrow.Author.Tests.{le-ltb}
-use borrow.Fn.World as World
-use borrow.Fn.Kinds as FnKinds
-use denote.Triple.Clauses as Clauses
 use denote.Ref.{now}
 use lib.ListN.{length, take, drop}
 use lib.Seq.{take-at}
 use Rattle.lists.specs.Lists.{overlay}
-use Rattle.lists.proofs.Calls.{Call}
+use Rattle.lists.proofs.Calls.{Call, AsksNothing}
 use Rattle.hall_display.specs.Panels.{isDisplay, imageBytes, header}
 use Rattle.hall_display.specs.Commands.{dataIn}
 use Rattle.hall_display.specs.Upload.{uploading}
@@ -22,28 +19,21 @@ use Rattle.hall_display.proofs.Panels.{header-length}
 use Rattle.start_board.specs.Words.{asWord}
 use Rattle.start_board.specs.Hall.{headerPut, commandWord, commandPut, WordsUploaded, pointerAt, slotAt, WordsRead}
 use Rattle.start_board.proofs.HallOrder.{words-uploaded, words-read}
-use Rattle.start_board.proofs.hall.epd_hall_header as header-fn
 use Rattle.start_board.proofs.hall.epd_hall_header.Kinds as header-kinds
 use Rattle.start_board.proofs.hall.epd_hall_header.Reads as header-reads
-use Rattle.start_board.proofs.hall.epd_hall_command as command-fn
 use Rattle.start_board.proofs.hall.epd_hall_command.Kinds as command-kinds
 use Rattle.start_board.proofs.hall.epd_hall_command.Reads as command-reads
-use Rattle.start_board.proofs.hall.epd_hall_read as read-fn
 use Rattle.start_board.proofs.hall.epd_hall_read.Kinds as read-kinds
 use Rattle.start_board.proofs.hall.epd_hall_read.Reads as read-reads
-use Rattle.start_board.proofs.hall.epd_hall_checksum as table-fn
 use Rattle.start_board.proofs.hall.epd_hall_checksum.Kinds as table-kinds
 use Rattle.start_board.proofs.hall.epd_hall_checksum.Reads as table-reads
-use Rattle.start_board.proofs.hall.epd_hall_checksum_printed as printed-fn
 use Rattle.start_board.proofs.hall.epd_hall_checksum_printed.Kinds as printed-kinds
 use Rattle.start_board.proofs.hall.epd_hall_checksum_printed.Reads as printed-reads
 
 -- ---- the upload
 
 abbrev pub CommandCall : Type 0
-CommandCall =
-    Call 2 (World.ArgsD command-fn.signature) (World.ResD command-fn.signature)
-    (Clauses.AtExit (FnKinds.endedOf 2 command-kinds.ps command-kinds.r)) command-reads.Learnt
+CommandCall = Call 2 command-kinds.ps command-kinds.r command-reads.Learnt
 
 module _ (c : CommandCall) where
   abbrev pub outOf : List ℕ
@@ -68,9 +58,7 @@ pub record Asks (panel depth : ℕ) (image : List ℕ) (slot number : ℕ) (c : 
 -- ---- the header, and reading
 
 abbrev pub HeaderCall : Type 0
-HeaderCall =
-    Call 1 (World.ArgsD header-fn.signature) (World.ResD header-fn.signature)
-    (Clauses.AtExit (FnKinds.endedOf 1 header-kinds.ps header-kinds.r)) header-reads.Learnt
+HeaderCall = Call 1 header-kinds.ps header-kinds.r header-reads.Learnt
 
 header-put : (panel depth : ℕ) (out : List ℕ) → isDisplay panel depth ≡ true → 16 ≤ length out
     → headerPut panel depth out ≡ (0, overlay (header panel depth) out)
@@ -78,9 +66,7 @@ unfolding headerPut
 header-put panel depth out good room = rw (good, le-ltb (length out) 16 room)
 
 abbrev pub ReadCall : Type 0
-ReadCall =
-    Call 2 (World.ArgsD read-fn.signature) (World.ResD read-fn.signature)
-    (Clauses.AtExit (FnKinds.endedOf 2 read-kinds.ps read-kinds.r)) read-reads.Learnt
+ReadCall = Call 2 read-kinds.ps read-kinds.r read-reads.Learnt
 
 module _ (reads : ℕ → ReadCall) where
   abbrev pub wordsOf : ℕ → ℕ
@@ -142,16 +128,31 @@ module _ (panel depth : ℕ) (image : List ℕ) (slot : ℕ) (good : isDisplay p
 -- ---- the checksums
 
 abbrev pub TableCall : Type 0
-TableCall =
-    Call 1 (World.ArgsD table-fn.signature) (World.ResD table-fn.signature)
-    (Clauses.AtExit (FnKinds.endedOf 1 table-kinds.ps table-kinds.r)) table-reads.Learnt
+TableCall = Call 1 table-kinds.ps table-kinds.r table-reads.Learnt
 
 abbrev pub PrintedCall : Type 0
-PrintedCall =
-    Call 1 (World.ArgsD printed-fn.signature) (World.ResD printed-fn.signature)
-    (Clauses.AtExit (FnKinds.endedOf 1 printed-kinds.ps printed-kinds.r)) printed-reads.Learnt
+PrintedCall = Call 1 printed-kinds.ps printed-kinds.r printed-reads.Learnt
 
 -- over any bytes and any start value they are equal
 pub checksums-tied : (t : TableCall) (p : PrintedCall) → t .args .0 ≡ p .args .0 → now (t .args .1 .0) ≡ now (p .args .1 .0)
     → t .result ≡ p .result
 checksums-tied t p start bytes = rw (start, bytes) at (t .promised) ∙ sym (p .promised)
+
+-- ---- none of these calls asks anything of what it is given: a `requires` that is added to one is refused here
+
+pub record AskNothing : Type 0 where
+  pub hall-header : AsksNothing 1 header-kinds.ps header-reads.Asked
+  pub hall-command : AsksNothing 2 command-kinds.ps command-reads.Asked
+  pub hall-read : AsksNothing 2 read-kinds.ps read-reads.Asked
+  pub hall-checksum : AsksNothing 1 table-kinds.ps table-reads.Asked
+  pub hall-checksum-printed : AsksNothing 1 printed-kinds.ps printed-reads.Asked
+
+pub asks-nothing : AskNothing
+asks-nothing =
+    record {
+      hall-header = λ l args. tt;
+      hall-command = λ l args. tt;
+      hall-read = λ l args. tt;
+      hall-checksum = λ l args. tt;
+      hall-checksum-printed = λ l args. tt;
+    }

@@ -4,9 +4,6 @@
 use mathlib.Core.Path.{_≡_, sym, ap, _∙_}
 use mathlib.Core.List.{List}
 use Prim.Native.Nat.{ℕ, _≤_}
-use borrow.Fn.World as World
-use borrow.Fn.Kinds as FnKinds
-use denote.Triple.Clauses as Clauses
 use denote.Ref.{now}
 use lib.ListN.{length, take}
 use Rattle.lists.specs.Lists.{overlay}
@@ -20,14 +17,11 @@ use Rattle.mend.proofs.Theorems.{answer-small, good-file, promised-of}
 use Rattle.start_board.specs.Mending.{mendedNumber, asNumber, answerIn}
 use Rattle.start_board.proofs.MendNumber.{answer-back}
 use Rattle.start_board.proofs.Tied.{CheckBitmap, check-bitmap-tied}
-use Rattle.start_board.proofs.mending.epd_mend_bitmap as mend-fn
 use Rattle.start_board.proofs.mending.epd_mend_bitmap.Kinds as mend-kinds
 use Rattle.start_board.proofs.mending.epd_mend_bitmap.Reads as mend-reads
 
 abbrev pub MendCall : Type 0
-MendCall =
-    Call 3 (World.ArgsD mend-fn.signature) (World.ResD mend-fn.signature)
-    (Clauses.AtExit (FnKinds.endedOf 3 mend-kinds.ps mend-kinds.r)) mend-reads.Learnt
+MendCall = Call 3 mend-kinds.ps mend-kinds.r mend-reads.Learnt
 
 module _ (c : MendCall) where
   abbrev pub panelOf : ℕ
@@ -90,5 +84,5 @@ good-tied c k panel-is file-is z zeros room =
     ∙ good-file (panelOf c) (fileOf c) (sym (rw (panel-is, file-is) at (check-bitmap-tied k)) ∙ z) zeros (outOf c) (listOf c) room
 
 -- and the call asks nothing
-pub asks-nothing : AsksNothing 3 (World.ArgsD mend-fn.signature) mend-reads.Asked
+pub asks-nothing : AsksNothing 3 mend-kinds.ps mend-reads.Asked
 asks-nothing = λ l args. tt

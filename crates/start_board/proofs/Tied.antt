@@ -4,38 +4,26 @@
 use mathlib.Core.Path.{_≡_}
 use mathlib.Core.List.{List}
 use Prim.Native.Nat.{ℕ}
-use borrow.Fn.World as World
-use borrow.Fn.Kinds as FnKinds
-use denote.Triple.Clauses as Clauses
 use denote.Ref.{now}
 use Rattle.lists.proofs.Calls.{Call, AsksNothing}
 use Rattle.wire.specs.Builder.{buildLine}
 use Rattle.settings.specs.Settings.{checkSettings}
 use Rattle.bitmap.specs.Bitmap.{checkBitmap}
-use Rattle.start_board.proofs.epd_build_line as line-fn
 use Rattle.start_board.proofs.epd_build_line.Kinds as line-kinds
 use Rattle.start_board.proofs.epd_build_line.Reads as line-reads
-use Rattle.start_board.proofs.epd_check_settings as settings-fn
 use Rattle.start_board.proofs.epd_check_settings.Kinds as settings-kinds
 use Rattle.start_board.proofs.epd_check_settings.Reads as settings-reads
-use Rattle.start_board.proofs.epd_check_bitmap as bitmap-fn
 use Rattle.start_board.proofs.epd_check_bitmap.Kinds as bitmap-kinds
 use Rattle.start_board.proofs.epd_check_bitmap.Reads as bitmap-reads
 
 abbrev pub BuildLine : Type 0
-BuildLine =
-    Call 2 (World.ArgsD line-fn.signature) (World.ResD line-fn.signature)
-    (Clauses.AtExit (FnKinds.endedOf 2 line-kinds.ps line-kinds.r)) line-reads.Learnt
+BuildLine = Call 2 line-kinds.ps line-kinds.r line-reads.Learnt
 
 abbrev pub CheckSettings : Type 0
-CheckSettings =
-    Call 1 (World.ArgsD settings-fn.signature) (World.ResD settings-fn.signature)
-    (Clauses.AtExit (FnKinds.endedOf 1 settings-kinds.ps settings-kinds.r)) settings-reads.Learnt
+CheckSettings = Call 1 settings-kinds.ps settings-kinds.r settings-reads.Learnt
 
 abbrev pub CheckBitmap : Type 0
-CheckBitmap =
-    Call 1 (World.ArgsD bitmap-fn.signature) (World.ResD bitmap-fn.signature)
-    (Clauses.AtExit (FnKinds.endedOf 1 bitmap-kinds.ps bitmap-kinds.r)) bitmap-reads.Learnt
+CheckBitmap = Call 1 bitmap-kinds.ps bitmap-kinds.r bitmap-reads.Learnt
 
 -- the number and the output that a call of the line builder left
 pub build-line-tied : (c : BuildLine)
@@ -52,9 +40,9 @@ check-bitmap-tied c = c .promised
 
 -- and none of them asks anything
 pub record AskNothing : Type 0 where
-  pub line-builder : AsksNothing 2 (World.ArgsD line-fn.signature) line-reads.Asked
-  pub settings-check : AsksNothing 1 (World.ArgsD settings-fn.signature) settings-reads.Asked
-  pub bitmap-check : AsksNothing 1 (World.ArgsD bitmap-fn.signature) bitmap-reads.Asked
+  pub line-builder : AsksNothing 2 line-kinds.ps line-reads.Asked
+  pub settings-check : AsksNothing 1 settings-kinds.ps settings-reads.Asked
+  pub bitmap-check : AsksNothing 1 bitmap-kinds.ps bitmap-reads.Asked
 
 pub asks-nothing : AskNothing
 asks-nothing = record { line-builder = λ l args. tt; settings-check = λ l args. tt; bitmap-check = λ l args. tt }

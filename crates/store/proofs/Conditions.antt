@@ -1,12 +1,11 @@
 -- What a valid state keeps, one condition by one, and how the functions find it. Only this file knows in which order the conditions stand.
 -- Assumes nothing.
-use mathlib.Core.Path.{_≡_, refl, sym, ap, _∙_}
+use mathlib.Core.Path.{_≡_, sym, ap, _∙_}
 use mathlib.Core.Bool.{Bool, true, false, not, and-true, false≢true}
 use mathlib.Core.List.{List, [], _∷_}
 use Prim.Native.Nat.{ℕ, _≤_, _<_}
 use native.Mathlib.Omega.{arith}
 use borrow.Author.Tests.{leb-true, le-leb, lt-leb, eq-eqb, ne-eqb, not-false, not-true}
-use lib.Dec.{eqb}
 use lib.ListN.{length, getD}
 use lib.Seq.{length-take-le}
 use Rattle.lists.specs.Rules.{every, firstOf}

@@ -1,6 +1,5 @@
 // The numbers of the calls, case by case: `before` is the number given so far, and 0 where there is none.
 ghost use mathlib.Core.Path.{_≡_};
-ghost use Prim.Native.Nat.{_≤_};
 ghost use mathlib.Core.Bool.{cond};
 ghost use lib.Dec.{eqb};
 ghost use Rattle.lists.specs.Rules.{firstOf};

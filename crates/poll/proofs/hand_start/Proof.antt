@@ -1,7 +1,7 @@
 -- `hand_start` meets its contract, with a write left and with none. Assumes nothing.
 use mathlib.Core.Path.{_∙_}
 use native.Mathlib.Omega.{arith}
-use lib.ListN.{drop, getD}
+use lib.ListN.{drop}
 use Rattle.poll.proofs.Next.{found-few, start-line, start-write, first-line}
 use borrow.Author.Needs.{needs}
 use Rattle.poll.proofs.hand_start.Statement.{statement}

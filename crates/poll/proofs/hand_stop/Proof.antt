@@ -1,8 +1,7 @@
 -- `hand_stop` meets its contract, with a write left and with none. Assumes nothing.
 use mathlib.Core.Path.{_∙_}
-use Prim.Native.Nat.{_+_}
 use native.Mathlib.Omega.{arith}
-use lib.ListN.{drop, getD}
+use lib.ListN.{drop}
 use Rattle.poll.proofs.Next.{found-few, stop-done, stop-write}
 use borrow.Author.Needs.{needs}
 use Rattle.poll.proofs.hand_stop.Statement.{statement}

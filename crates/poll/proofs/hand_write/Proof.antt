@@ -1,5 +1,4 @@
 -- `hand_write` meets its contract. Assumes nothing.
-use native.Mathlib.Omega.{arith}
 use Rattle.poll.proofs.Next.{write-out}
 use borrow.Author.Needs.{needs}
 use Rattle.poll.proofs.hand_write.Statement.{statement}

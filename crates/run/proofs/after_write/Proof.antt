@@ -1,8 +1,7 @@
 -- `after_write` meets its contract: step k - 1 stands where k - 1 steps were passed. Assumes nothing.
 use denote.Ref.{now}
 use lib.ListN.{drop}
-use native.Mathlib.Omega.{arith}
-use Rattle.settings.specs.Settings.{panelOf, stepsOf}
+use Rattle.settings.specs.Settings.{stepsOf}
 use Rattle.run.proofs.Valid.{first-step, later-step}
 use borrow.Author.Needs.{needs}
 use Rattle.run.proofs.after_write.Statement.{statement}

@@ -8,7 +8,6 @@ use Rattle.run.specs.Conditions.{afterWrite, startPlaceRules}
 use Rattle.run.proofs.Valid.{start-first, start-later}
 use mathlib.Core.Path.{sym, ap, _∙_}
 use Rattle.settings.specs.Settings.{startCount}
-use borrow.Author.Needs.{needs}
 use Rattle.run.proofs.start_valid.Statement.{statement}
 use Rattle.run.proofs.start_valid.Tie as tie
 

@@ -8,7 +8,6 @@ use Rattle.settings.specs.Settings.{stopCount}
 use Rattle.settings.proofs.Plans.{frames-is}
 use Rattle.run.specs.Conditions.{afterWrite, stopPlaceRules}
 use Rattle.run.proofs.Valid.{stop-ranged}
-use borrow.Author.Needs.{needs}
 use Rattle.run.proofs.stop_valid.Statement.{statement}
 use Rattle.run.proofs.stop_valid.Tie as tie
 

@@ -1,6 +1,5 @@
 -- `waits_from` meets its contract. Assumes nothing.
 use native.Mathlib.Omega.{arith}
-use borrow.Author.Needs.{needs}
 use Rattle.run.proofs.waits_from.Statement.{statement}
 use Rattle.run.proofs.waits_from.Tie as tie
 

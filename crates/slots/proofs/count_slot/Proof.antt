@@ -1,7 +1,6 @@
 -- `count_slot`: the slot is counted, and the count stored. Assumes nothing.
 use mathlib.Core.Path.{ap, _∙_}
 use lib.ListN.{set}
-use borrow.Author.Needs.{needs}
 use Rattle.slots.proofs.count_slot.Statement.{statement}
 use Rattle.slots.proofs.count_slot.Tie as tie
 

@@ -1,5 +1,4 @@
 -- `check_write`: the store's cases, then those of the writer. Assumes nothing.
-use mathlib.Core.Path.{refl}
 use Rattle.store.specs.Refusals.{writeOwn}
 use Rattle.store.proofs.Cases.{first-found}
 use Rattle.board.specs.State.{fileOf, storeCases, sizesOf}
