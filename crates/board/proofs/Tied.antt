@@ -12,7 +12,7 @@ use Rattle.run.specs.declared.Tick.{Tick}
 use Rattle.board.specs.History as H
 use Rattle.board.specs.History.{Call, Event, callOn, ofReply, ofPoll, ofSummary, eventsOf, memoryAfter}
 use Rattle.board.specs.Calls.{polling}
-use Rattle.board.specs.Chains.{Parts, Chain, finished, more}
+use Rattle.board.specs.Chains.{Parts, Chain, finished, more, callsOf}
 use Rattle.board.specs.Balance.{Balanced}
 use Rattle.board.specs.declared.State.{State}
 use Rattle.board.specs.declared.Reply.{Reply}
@@ -82,16 +82,13 @@ SummaryCall = made.Call 0 summary-kinds.ps summary-kinds.r summary-reads.Learnt
 
 -- ---- the parts of each call: the places of its arguments are named here and nowhere else
 
--- the slot and the tick reading of a start, the slot of a fill's begin, the slot and the file of a bitmap upload and of the writer, and
--- the state and the slot of a call for a summary
+-- the slot and the tick reading of a start, the slot and the file of a bitmap upload, the slot of the writer, and the state and the slot of a
+-- call for a summary
 abbrev pub startedSlot : Start → ℕ
 startedSlot c = c .args .1 .1 .0
 
 abbrev pub startedTick : Start → Tick
 startedTick c = c .args .1 .1 .1 .0
-
-abbrev pub begunSlot : BeginFill → ℕ
-begunSlot c = c .args .1 .1 .0
 
 abbrev pub uploadedSlot : UploadBitmap → ℕ
 uploadedSlot c = c .args .1 .1 .0
@@ -125,7 +122,7 @@ bitmapParts c =
     replied (c .args .0) (now (c .args .1 .0)) (H.uploadBitmap (uploadedSlot c) (uploadedFile c)) (c .result) (now (c .exit .1 .0)) []
 
 abbrev pub beginParts : BeginFill → Parts
-beginParts c = replied (c .args .0) (now (c .args .1 .0)) (H.beginFill (begunSlot c)) (c .result) (now (c .args .1 .0)) []
+beginParts c = replied (c .args .0) (now (c .args .1 .0)) (H.beginFill (c .args .1 .1 .0)) (c .result) (now (c .args .1 .0)) []
 
 abbrev pub feedParts : FeedFill → Parts
 feedParts c = replied (c .args .0) (now (c .args .1 .0)) (H.feedFill (now (c .args .1 .1 .0))) (c .result) (now (c .exit .1 .0)) []
@@ -241,10 +238,6 @@ kept {p} (writeBitmap c) = ap (λ (z : Reply × List ℕ). ofReply (p .call) (p 
 kept {p} (summary c memory) = ap (ofSummary (p .call) memory) (c .promised)
 
 -- ---- a chain of such calls is a list of calls
-
-abbrev pub callsOf : {s : State} {m : List ℕ} {events : List Event} {u : List ℕ} → Chain Step s m events u → List Call
-callsOf finished = []
-callsOf (more {p = p} step rest) = p .call ∷ callsOf rest
 
 -- the events and the memory at the end are those of that list
 pub record Listed (s : State) (m : List ℕ) (calls : List Call) (events : List Event) (u : List ℕ) : Type 0 where

@@ -2,7 +2,7 @@
 -- that came, whatever else is called.
 -- Assumes nothing.
 use mathlib.Core.Path.{_≡_, refl, sym, ap, _∙_, subst}
-use mathlib.Core.Bool.{Bool, true, false, cond, not, _&&_, false≢true}
+use mathlib.Core.Bool.{Bool, true, false, cond, not, false≢true}
 use mathlib.Core.List.{List, [], _∷_, _++_, map, append-nil, append-assoc}
 use Prim.Native.Nat.{ℕ, _+_, _*_, _≤_}
 use native.Mathlib.Nat.{zero-div}
@@ -47,6 +47,7 @@ use Rattle.store.proofs.Cases.{Fillable, fillable, fill-free}
 use Rattle.board.specs.State.{fileOf, sizesOf, withPhase, withFill, withSummaries, stateValid, storeCases}
 use Rattle.board.specs.Calls.{reply, counted, drawnTo, bitmapUpload, beginCases, fillBegin, fillCases, fedReply, onFill, fillFeed, fillFinish, fillCancel}
 use Rattle.board.specs.History.{Call, uploadRegion, uploadBitmap, beginFill, feedFill, finishFill, cancelFill, start, poll, abandon, writeBitmap, summary, number, Called, callOn, memoryAfter}
+use Rattle.board.specs.Chains.{Parts}
 use Rattle.board.specs.declared.State.{State}
 use Rattle.board.specs.declared.Reply.{Reply}
 use Rattle.board.proofs.Tests.{Tested, tested, store-free}
@@ -55,8 +56,7 @@ use Rattle.board.proofs.Effects.{Effect, Fills, feeds, finishes, cancels, polle
 use Rattle.board.proofs.Filled.{act-length, act-unwritten, sized, filled-inside, filled-length}
 use Rattle.theorems.specs.Progress.{stateAfter}
 use Rattle.bitmap_prefix.specs.Meaning.{AreBytes}
-use Rattle.theorems.specs.Fills as spec
-use Rattle.theorems.specs.Fills.{chunkOf, sentBy, keepsFilling, allKeepFilling, begins, good, pictureIn, Filled, Earns4, from-chunk, from-finish, Begun, FillsHold, BadFilesEarn4, FillsAsWhole}
+use Rattle.theorems.specs.Fills.{chunkOf, sentBy, keepsFilling, allKeepFilling, numberOf, begins, good, pictureIn, whitePicture, Begun, Filling, SlotAfter, Filled, Earns4, from-chunk, from-finish, theBegin, afterBegin, FillsHold, BadFilesEarn4, FillsAsWhole}
 use Rattle.theorems.proofs.Handed.{by-handed}
 use Rattle.theorems.proofs.Kept.{leaves-valid, stays-valid}
 use Rattle.theorems.proofs.RoundTrips.{uploads}
@@ -479,38 +479,48 @@ module _ (state : State) (memory : List ℕ) (slot : ℕ) (accepted : fillBegin 
       now-going : Going slot low old (sizesOf state) (sentBy calls) (stateAfter from memory calls) (memoryAfter from memory calls)
       now-going = all-going slot low old (sizesOf state) z rows calls begun-going (λ k. omega arith) unended sent begun
 
-    filled : Filled state memory slot calls
-    filled =
-        record {
-          so-far = λ begun. now-going begun .slot-is;
-          taken =
-              λ chunk new e.
-              chunk-answers slot low old (sizesOf state) z rows (now-going (begins-front (sentBy calls) chunk b₂ h₂ s₂ e)) sent
-              (begins-front (sentBy calls) chunk b₂ h₂ s₂ e) chunk new e .0;
-          refused =
-              λ chunk new begun e.
-              let a = chunk-answers slot low old (sizesOf state) z rows (now-going begun) sent begun chunk new e in
-              record { answers = a .0; holds = a .1 ∙ white-picture b₂ h₂ };
-          finished =
-              λ good.
-              let begun = good-begins b₂ h₂ s₂ (z .narrow) (z .low) (z .small) (sentBy calls) sent good in
-              let a = finish-answers slot low old (sizesOf state) z rows (now-going begun) sent begun good in
-              record {
-                answers = a .0;
-                holds = a .1 ∙ picture-raw b₂ h₂ (z .some) (readPicture b₂ h₂ s₂ (sentBy calls)) (rows-read b₂ h₂ s₂ (sentBy calls) sent);
-              };
-          cut-short =
-              λ begun bad.
-              let a = finish-answers slot low old (sizesOf state) z rows (now-going begun) sent begun bad in
-              record { answers = a .0; holds = a .1 ∙ white-picture b₂ h₂ };
-          cancelled =
-              λ begun.
-              let a = cancel-answers slot low old (sizesOf state) z rows (now-going begun) sent begun in
-              record { answers = a .0; holds = a .1 ∙ white-picture b₂ h₂ };
-        }
+    -- what is said of a call of this kind is said of it
+    module _ (call : Call) where
+      abbrev place : Parts
+      place = afterBegin state memory slot calls call
+
+      as-this : {kind : Call} (P : Parts → Type 0) → call ≡ kind → P (afterBegin state memory slot calls kind) → P place
+      as-this P is = subst (λ (c : Call). P (afterBegin state memory slot calls c)) (sym is)
+
+      abbrev Left : (number : ℕ) (picture : List ℕ) → Parts → Type 0
+      Left = SlotAfter (theBegin state memory slot) slot
+
+      filled : Filled (theBegin state memory slot) slot calls place
+      filled =
+          record {
+            so-far = λ begun. now-going begun .slot-is;
+            taken =
+                λ chunk is new e.
+                let begun = begins-front (sentBy calls) chunk b₂ h₂ s₂ e in
+                as-this (λ p. numberOf p ≡ 0) is
+                (chunk-answers slot low old (sizesOf state) z rows (now-going begun) sent begun chunk new e .0);
+            refused =
+                λ chunk is new begun e.
+                let a = chunk-answers slot low old (sizesOf state) z rows (now-going begun) sent begun chunk new e in
+                as-this (Left 4 (whitePicture state)) is (record { answers = a .0; holds = a .1 ∙ white-picture b₂ h₂ });
+            finished =
+                λ is good.
+                let begun = good-begins b₂ h₂ s₂ (z .narrow) (z .low) (z .small) (sentBy calls) sent good in
+                let a = finish-answers slot low old (sizesOf state) z rows (now-going begun) sent begun good in
+                let read = picture-raw b₂ h₂ (z .some) (readPicture b₂ h₂ s₂ (sentBy calls)) (rows-read b₂ h₂ s₂ (sentBy calls) sent) in
+                as-this (Left 0 (pictureIn state (sentBy calls))) is (record { answers = a .0; holds = a .1 ∙ read });
+            cut-short =
+                λ is begun bad.
+                let a = finish-answers slot low old (sizesOf state) z rows (now-going begun) sent begun bad in
+                as-this (Left 4 (whitePicture state)) is (record { answers = a .0; holds = a .1 ∙ white-picture b₂ h₂ });
+            cancelled =
+                λ is begun.
+                let a = cancel-answers slot low old (sizesOf state) z rows (now-going begun) sent begun in
+                as-this (Left 0 (whitePicture state)) is (record { answers = a .0; holds = a .1 ∙ white-picture b₂ h₂ });
+          }
 
 pub fills-hold : FillsHold
-fills-hold state memory slot calls b = filled state memory slot (b .accepted) (b .memory-bytes) calls (b .sent-bytes) (b .unended)
+fills-hold state memory slot b calls f = filled state memory slot (b .accepted) (b .memory-bytes) calls (f .sent-bytes) (f .unended)
 
 -- ---- where a file that is not good gets its 4
 
@@ -542,21 +552,22 @@ keep-front (call ∷ calls) more e =
     both (and-left (keepsFilling call) (allKeepFilling (calls ++ more)) e)
     (keep-front calls more (and-right (keepsFilling call) (allKeepFilling (calls ++ more)) e))
 
-module _ (state : State) (memory : List ℕ) (slot : ℕ) where
-  -- the calls up to some place
-  front : (before rest : List Call) → Begun state memory slot (before ++ rest) → Begun state memory slot before
-  front before rest b =
-      record {
-        accepted = b .accepted;
-        memory-bytes = b .memory-bytes;
-        sent-bytes = bytes-front (sentBy before) (sentBy rest) (subst Bytes (sent-append before rest) (b .sent-bytes));
-        unended = keep-front before rest (b .unended);
-      }
+-- the calls up to some place
+filling-front : (before rest : List Call) → Filling (before ++ rest) → Filling before
+filling-front before rest f =
+    record {
+      sent-bytes = bytes-front (sentBy before) (sentBy rest) (subst Bytes (sent-append before rest) (f .sent-bytes));
+      unended = keep-front before rest (f .unended);
+    }
 
-  first-bad : (rest before : List Call) → Begun state memory slot (before ++ rest) → begins state (sentBy before) ≡ true
-      → begins state (sentBy (before ++ rest)) ≡ false → Earns4 state memory slot (before ++ rest)
-  first-bad [] before b good bad = absurd (false≢true (sym bad ∙ ap (λ (l : List Call). begins state (sentBy l)) (append-nil before) ∙ good))
-  first-bad (call ∷ rest) before b good bad =
+module _ (state : State) (memory : List ℕ) (slot : ℕ) (b : Begun (theBegin state memory slot) slot) where
+  abbrev Earns : List Call → Type 0
+  Earns = Earns4 (theBegin state memory slot) slot (λ before p. p ≡ afterBegin state memory slot before (p .call))
+
+  first-bad : (rest before : List Call) → Filling (before ++ rest) → begins state (sentBy before) ≡ true
+      → begins state (sentBy (before ++ rest)) ≡ false → Earns (before ++ rest)
+  first-bad [] before f good bad = absurd (false≢true (sym bad ∙ ap (λ (l : List Call). begins state (sentBy l)) (append-nil before) ∙ good))
+  first-bad (call ∷ rest) before f good bad =
       by-chunk (first-bad rest (before ++ (call ∷ []))) (begins state (sentBy before ++ chunkOf call)) refl (what-feeds call)
     where
       one : before ++ (call ∷ rest) ≡ (before ++ (call ∷ [])) ++ rest
@@ -565,32 +576,31 @@ module _ (state : State) (memory : List ℕ) (slot : ℕ) where
       sent-one : sentBy (before ++ (call ∷ [])) ≡ sentBy before ++ chunkOf call
       sent-one = sent-append before (call ∷ []) ∙ ap (λ (l : List ℕ). sentBy before ++ l) (append-nil (chunkOf call))
 
-      by-chunk : (Begun state memory slot ((before ++ (call ∷ [])) ++ rest) → begins state (sentBy (before ++ (call ∷ []))) ≡ true
-          → begins state (sentBy ((before ++ (call ∷ [])) ++ rest)) ≡ false → Earns4 state memory slot ((before ++ (call ∷ [])) ++ rest))
-          → (t : Bool) → begins state (sentBy before ++ chunkOf call) ≡ t → Feeds call → Earns4 state memory slot (before ++ (call ∷ rest))
-      by-chunk later true e f =
-          subst (Earns4 state memory slot) (sym one)
-          (later (subst (Begun state memory slot) one b) (ap (begins state) sent-one ∙ e)
-          (ap (λ (l : List Call). begins state (sentBy l)) (sym one) ∙ bad))
+      by-chunk : (Filling ((before ++ (call ∷ [])) ++ rest) → begins state (sentBy (before ++ (call ∷ []))) ≡ true
+          → begins state (sentBy ((before ++ (call ∷ [])) ++ rest)) ≡ false → Earns ((before ++ (call ∷ [])) ++ rest))
+          → (t : Bool) → begins state (sentBy before ++ chunkOf call) ≡ t → Feeds call → Earns (before ++ (call ∷ rest))
+      by-chunk later true e fed-by =
+          subst Earns (sym one)
+          (later (subst Filling one f) (ap (begins state) sent-one ∙ e) (ap (λ (l : List Call). begins state (sentBy l)) (sym one) ∙ bad))
       by-chunk later false e (none silent) =
           absurd (false≢true (sym e ∙ ap (λ (l : List ℕ). begins state (sentBy before ++ l)) silent ∙ ap (begins state) (append-nil (sentBy before)) ∙ good))
       by-chunk later false e (some new is) =
-          let whole = subst (λ (c : Call). Begun state memory slot (before ++ (c ∷ rest))) is b in
+          let whole = subst (λ (c : Call). Filling (before ++ (c ∷ rest))) is f in
           let all : Bytes (sentBy before ++ (new ++ sentBy rest)) = subst Bytes (sent-append before (feedFill new ∷ rest)) (whole .sent-bytes) in
           let are : Bytes new = bytes-front new (sentBy rest) (bytes-back (sentBy before) (new ++ sentBy rest) all) in
           let wrong : begins state (sentBy before ++ new) ≡ false = ap (λ (c : Call). begins state (sentBy before ++ chunkOf c)) (sym is) ∙ e in
-          from-chunk before new rest (ap (λ (c : Call). before ++ (c ∷ rest)) is) good wrong
-          (fills-hold state memory slot before (front before (feedFill new ∷ rest) whole) .refused new are good wrong)
+          from-chunk before new rest (ap (λ (c : Call). before ++ (c ∷ rest)) is) good wrong (afterBegin state memory slot before (feedFill new)) refl refl
+          (fills-hold state memory slot b before (filling-front before (feedFill new ∷ rest) whole) (feedFill new) .refused new refl are good wrong)
 
-  bad-earns : (calls : List Call) → Begun state memory slot calls → good state (sentBy calls) ≡ false → Earns4 state memory slot calls
-  bad-earns calls b bad = go (begins state (sentBy calls)) refl
+  bad-earns : (calls : List Call) → Filling calls → good state (sentBy calls) ≡ false → Earns calls
+  bad-earns calls f bad = go (begins state (sentBy calls)) refl
     where
-      go : (t : Bool) → begins state (sentBy calls) ≡ t → Earns4 state memory slot calls
-      go true e = from-finish e (fills-hold state memory slot calls b .cut-short e bad)
-      go false e = first-bad calls [] b (begins-empty (sizesOf state .bytes) (sizesOf state .rows) (sizesOf state .stride)) e
+      go : (t : Bool) → begins state (sentBy calls) ≡ t → Earns calls
+      go true e = from-finish e (afterBegin state memory slot calls finishFill) refl refl (fills-hold state memory slot b calls f finishFill .cut-short refl e bad)
+      go false e = first-bad calls [] f (begins-empty (sizesOf state .bytes) (sizesOf state .rows) (sizesOf state .stride)) e
 
 pub bad-files-earn-4 : BadFilesEarn4
-bad-files-earn-4 state memory slot calls b bad = bad-earns state memory slot calls b bad
+bad-files-earn-4 = bad-earns
 
 -- ---- with no other call between
 
@@ -851,10 +861,10 @@ module _ (state : State) (memory : List ℕ) (slot : ℕ) (accepted : fillBegin 
         ∙ sym (uploads state memory slot (sentBy calls) (t .1) (t .2 .upload) fine)
 
 pub fills-as-whole : FillsAsWhole
-fills-as-whole state memory slot chunks b fine =
+fills-as-whole state memory slot b chunks sent fine =
     let from : State = fillBegin state (length memory) slot .state in
     let calls = map feedFill chunks in
-    let is = last state memory slot (b .accepted) (b .memory-bytes) chunks (b .sent-bytes) fine in (
+    let is = last state memory slot (b .accepted) (b .memory-bytes) chunks sent fine in (
       state-append from memory calls (finishFill ∷ []) ∙ ap (λ (r : Reply × List ℕ). r .0 .state) is,
       memory-append from memory calls (finishFill ∷ []) ∙ ap (λ (r : Reply × List ℕ). r .1) is,
     )

@@ -7,7 +7,7 @@ use mathlib.Core.List.{List, [], _∷_, _++_, map}
 use Prim.Native.Nat.{ℕ, _≤_}
 use borrow.Author.Tests.{eqb-false}
 use lib.Dec.{eqb}
-use lib.ListN.{length, drop}
+use lib.ListN.{length}
 use Rattle.lists.specs.Lists.{overlay}
 use Rattle.lists.specs.Rules.{firstOf}
 use Rattle.lists.proofs.Rules.{by-cases}
@@ -18,12 +18,12 @@ use Rattle.bitmap.specs.Bitmap.{normalForm}
 use Rattle.summary.specs.Summaries.{summaryOf}
 use Rattle.store.specs.Refusals.{openCases}
 use Rattle.board.specs.State.{fileOf, sizesOf, stateValid, emptyState}
-use Rattle.board.specs.Calls.{reply, opening, uploadCases, fillBegin, starting, bitmapUpload, bitmapWrite, summarised, slotSummary}
-use Rattle.board.specs.History.{Call, feedFill, finishFill, cancelFill, Event, numberGiven, isAccepted, givenBy, outOf, Called, callOn, eventsOf, memoryAfter}
-use Rattle.board.specs.Chains.{Parts, Chain, finished, more}
+use Rattle.board.specs.Calls.{reply, opening, uploadCases, starting, bitmapUpload, bitmapWrite, summarised, slotSummary}
+use Rattle.board.specs.History.{Call, uploadBitmap, feedFill, finishFill, Event, numberGiven, isAccepted, givenBy, outOf, Called, callOn, eventsOf, memoryAfter}
+use Rattle.board.specs.Chains.{Parts, Chain, finished, more, callsOf, endOf, In}
 use Rattle.board.specs.declared.State.{State}
 use Rattle.board.specs.declared.Reply.{Reply}
-use Rattle.board.proofs.Tied.{Open, BeginFill, Start, UploadBitmap, WriteBitmap, beginParts, begunSlot, startParts, bitmapParts, writeParts, startedSlot, startedTick, uploadedSlot, uploadedFile, writtenSlot, openedFile, openedSlots, openedMemory, lentMemory, Step, kept, callsOf, listed, SummaryCall, summaryState, summarySlot}
+use Rattle.board.proofs.Tied.{Open, Start, UploadBitmap, WriteBitmap, startParts, bitmapParts, writeParts, startedSlot, startedTick, uploadedSlot, uploadedFile, writtenSlot, openedFile, openedSlots, openedMemory, lentMemory, Step, kept, listed, SummaryCall, summaryState, summarySlot}
 use Rattle.theorems.specs.Order.{Thing, thingsOfRun, thingsIn}
 use Rattle.theorems.specs.Progress.{AllGo, noTurns, stateAfter, handOuts}
 use Rattle.theorems.specs.Timing.{noRun, aRun, watchAtStart, AllTimely}
@@ -31,8 +31,7 @@ use Rattle.theorems.specs.Past.{observedIn}
 use Rattle.theorems.specs.Frames.{runPut, wasDone, Shows}
 use Rattle.bitmap_prefix.specs.Meaning.{AreBytes}
 use Rattle.theorems.specs.Copies.{fileLeft, Carried}
-use Rattle.theorems.specs.Fills as spec
-use Rattle.theorems.specs.Fills.{sentBy, allKeepFilling, calledAfter, SlotAfter, whitePicture, begins, good, pictureIn, next, Earns4, Begun}
+use Rattle.theorems.specs.Fills.{sentBy, madeAfter, good, whitePicture, Begun, Filling, SlotAfter, Filled, Earns4, from-chunk, from-finish, theBegin, afterBegin, FillsHoldMade, BadFilesEarn4Made, FillsAsWholeMade}
 use Rattle.theorems.specs.Summaries.{Summarises}
 use Rattle.theorems.specs.Refusals.{Unchanged, breaksFill, FillBroken}
 use Rattle.theorems.proofs.Refusals.{refused-same, fill-broken}
@@ -268,162 +267,118 @@ upload-normal-tied c d accepted same-state same-memory same-slot normal =
 
 -- ---- fills
 
--- the events of a list of calls, from some call on
-events-from : (s : State) (m : List ℕ) (calls rest : List Call)
-    → drop (length calls) (eventsOf s m (calls ++ rest)) ≡ eventsOf (stateAfter s m calls) (memoryAfter s m calls) rest
-events-from s m [] rest = refl
-events-from s m (call ∷ calls) rest = events-from (callOn s m call .state) (callOn s m call .memory) calls rest
+-- a call that was made, as its definition says
+as-defined : {p : Parts} → Step p → p ≡ madeAfter (p .state) (p .memory) [] (p .call)
+as-defined {p} step = ap (λ (c : Called). record { state = p .state; memory = p .memory; call = p .call; left = c }) (kept step)
 
--- chunks neither finish nor cancel
-all-chunks : (chunks : List (List ℕ)) → allKeepFilling (map feedFill chunks) ≡ true
-all-chunks [] = refl
-all-chunks (chunk ∷ chunks) = all-chunks chunks
+-- a call of a chain is what the list of the calls before it and its own definition say
+in-list : {s : State} {m : List ℕ} {events : List Event} {u : List ℕ} (chain : Chain Step s m events u) (calls : List Call) (p : Parts)
+    → In chain calls p → p ≡ madeAfter s m calls (p .call)
+in-list finished calls p at = absurd at
+in-list (more {p = q} step rest) [] p at =
+    at ∙ as-defined step ∙ ap (λ (r : Parts). madeAfter (q .state) (q .memory) [] (r .call)) (sym at)
+in-list (more {p = q} step rest) (call ∷ calls) p at =
+    let left : q .left ≡ callOn (q .state) (q .memory) call = kept step ∙ ap (callOn (q .state) (q .memory)) (sym (at .0)) in
+    in-list rest calls p (at .1) ∙ ap (λ (c : Called). madeAfter (c .state) (c .memory) calls (p .call)) left
 
--- the state that a chain of calls leaves
-abbrev pub endOf : {s : State} {m : List ℕ} {events : List Event} {u : List ℕ} → Chain Step s m events u → State
-endOf {s} finished = s
-endOf (more step rest) = endOf rest
+-- and one of those before it
+in-front : {s : State} {m : List ℕ} {events : List Event} {u : List ℕ} (chain : Chain Step s m events u) (before : List Call) (call : Call)
+    (rest : List Call) (p : Parts) → In chain (before ++ (call ∷ rest)) p → (q : Parts) × In chain before q × (q .call ≡ call)
+in-front finished before call rest p at = absurd at
+in-front (more {p = q} step others) [] call rest p at = (q, refl, sym (at .0))
+in-front (more step others) (first ∷ before) call rest p at =
+    let found = in-front others before call rest p (at .1) in (found .0, (at .0, found .1), found .2)
 
--- is that of its list of calls
+module _ {begin : Parts} {slot : ℕ} (step : Step begin) (b : Begun begin slot) {events : List Event} {u : List ℕ}
+    (chain : Chain Step (begin .left .state) (begin .left .memory) events u) where
+  abbrev given : State
+  given = begin .state
+
+  abbrev lent : List ℕ
+  lent = begin .memory
+
+  by-begin : begin ≡ theBegin given lent slot
+  by-begin = as-defined step ∙ ap (madeAfter given lent []) (b .is-begin)
+
+  begun-so : Begun (theBegin given lent slot) slot
+  begun-so = subst (λ (q : Parts). Begun q slot) by-begin b
+
+  -- a call after the begin and others
+  abbrev after : List Call → Call → Parts
+  after = madeAfter (begin .left .state) (begin .left .memory)
+
+  -- what holds of a begin by its definition, and of the calls after it, holds of this one
+  since-begin : (P : Parts → (List Call → Call → Parts) → Type 0) → P (theBegin given lent slot) (afterBegin given lent slot) → P begin after
+  since-begin P = subst (λ (q : Parts). P q (madeAfter (q .left .state) (q .left .memory))) (sym by-begin)
+
+  its-calls : (calls : List Call) (p : Parts) → In chain calls p → Filling calls → Filled begin slot calls p
+  its-calls calls p at f =
+      subst (Filled begin slot calls) (sym (in-list chain calls p at))
+      (since-begin (λ q then. Filled q slot calls (then calls (p .call))) (fills-hold given lent slot begun-so calls f (p .call)))
+
+  -- of a kind there is but one call after these
+  only-one : (calls : List Call) (kind : Call) (p q : Parts) → p ≡ after calls (p .call) → p .call ≡ kind → In chain calls q → q .call ≡ kind
+      → p ≡ q
+  only-one calls kind p q is of-kind at same = is ∙ ap (after calls) (of-kind ∙ sym same) ∙ sym (in-list chain calls q at)
+
+  its-4 : (calls : List Call) (p : Parts) → In chain calls p → p .call ≡ finishFill → Filling calls → good given (sentBy calls) ≡ false
+      → Earns4 begin slot (In chain) calls
+  its-4 calls p at last f bad =
+      by-place
+      (since-begin (λ q then. Earns4 q slot (λ before r. r ≡ then before (r .call)) calls)
+      (bad-files-earn-4 given lent slot begun-so calls f bad))
+    where
+      by-place : Earns4 begin slot (λ before r. r ≡ after before (r .call)) calls → Earns4 begin slot (In chain) calls
+      by-place (from-chunk before chunk rest is e g r made kind left) =
+          let found = in-front chain before (feedFill chunk) rest p (subst (λ (l : List Call). In chain l p) is at) in
+          from-chunk before chunk rest is e g (found .0) (found .1) (found .2)
+          (subst (SlotAfter begin slot 4 (whitePicture given)) (only-one before (feedFill chunk) r (found .0) made kind (found .1) (found .2)) left)
+      by-place (from-finish e r made kind left) =
+          from-finish e p at last
+          (subst (SlotAfter begin slot 4 (whitePicture given)) (only-one calls finishFill r p made kind at last) left)
+
+  as-whole : (chunks : List (List ℕ)) (p : Parts) → In chain (map feedFill chunks) p → p .call ≡ finishFill
+      → AreBytes (sentBy (map feedFill chunks)) → good given (sentBy (map feedFill chunks)) ≡ true
+      → (p .left .state ≡ bitmapUpload given lent slot (sentBy (map feedFill chunks)) .0 .state)
+      × (p .left .memory ≡ bitmapUpload given lent slot (sentBy (map feedFill chunks)) .1)
+  as-whole chunks p at last sent fine =
+      let calls = map feedFill chunks in
+      let from : State = theBegin given lent slot .left .state in
+      let whole = fills-as-whole given lent slot begun-so chunks sent fine in
+      let is : p .left ≡ afterBegin given lent slot calls finishFill .left =
+      ap (λ (q : Parts). q .left) (in-list chain calls p at ∙ ap (after calls) last)
+      ∙ ap (λ (q : Parts). madeAfter (q .left .state) (q .left .memory) calls finishFill .left) by-begin in (
+        ap (λ (c : Called). c .state) is ∙ sym (state-append from lent calls (finishFill ∷ [])) ∙ whole .0,
+        ap (λ (c : Called). c .memory) is ∙ sym (memory-append from lent calls (finishFill ∷ [])) ∙ whole .1,
+      )
+
+pub fills-hold-tied : FillsHoldMade Step
+fills-hold-tied begin slot step b events u = its-calls step b
+
+pub bad-files-earn-4-tied : BadFilesEarn4Made Step
+bad-files-earn-4-tied begin slot step b events u = its-4 step b
+
+pub fills-as-whole-tied : FillsAsWholeMade Step
+fills-as-whole-tied begin slot step b events u chain chunks p at last sent fine upload made same-state same-memory is =
+    let file : List ℕ = sentBy (map feedFill chunks) in
+    let whole = as-whole step b chain chunks p at last sent fine in
+    let left : upload .left ≡ callOn (begin .state) (begin .memory) (uploadBitmap slot file) =
+    kept made
+    ∙ ap (λ (s : State). callOn s (upload .memory) (upload .call)) same-state
+    ∙ ap (λ (m : List ℕ). callOn (begin .state) m (upload .call)) same-memory
+    ∙ ap (callOn (begin .state) (begin .memory)) is in (
+      whole .0 ∙ sym (ap (λ (c : Called). c .state) left),
+      whole .1 ∙ sym (ap (λ (c : Called). c .memory) left),
+    )
+
+-- ---- summaries
+
+-- the state that a chain of calls leaves is that of its list of calls
 ended-so : {s : State} {m : List ℕ} {events : List Event} {u : List ℕ} (chain : Chain Step s m events u)
     → endOf chain ≡ stateAfter s m (callsOf chain)
 ended-so finished = refl
 ended-so (more {p = p} step rest) =
     ended-so rest ∙ ap (λ (c : Called). stateAfter (c .state) (c .memory) (callsOf rest)) (kept step)
-
--- a call on what a chain of calls left
-pub record After {s : State} {m : List ℕ} {events : List Event} {u : List ℕ} (chain : Chain Step s m events u) (p : Parts) : Type 0 where
-  pub state-is : p .state ≡ endOf chain
-  pub memory-is : p .memory ≡ u
-
--- left what it does on what the list of calls leaves
-after-list : {s : State} {m : List ℕ} {events : List Event} {u : List ℕ} (chain : Chain Step s m events u) {p : Parts} → Step p
-    → After chain p → p .left ≡ calledAfter s m (callsOf chain) (p .call)
-after-list {s} {m} chain {p} step at =
-    kept step
-    ∙ ap (λ (q : State). callOn q (p .memory) (p .call)) (at .state-is ∙ ended-so chain)
-    ∙ ap (λ (l : List ℕ). callOn (stateAfter s m (callsOf chain)) l (p .call)) (at .memory-is ∙ sym (listed chain .left))
-
-module _ (c : BeginFill) (accepted : c .result .number ≡ 0) (memory-bytes : AreBytes (beginParts c .memory)) {events : List Event} {u : List ℕ}
-    (chain : Chain Step (c .result .state) (beginParts c .memory) events u)
-    (sent-bytes : AreBytes (sentBy (callsOf chain))) (unended : allKeepFilling (callsOf chain) ≡ true) where
-  abbrev before : State
-  before = beginParts c .state
-
-  abbrev lent : List ℕ
-  lent = beginParts c .memory
-
-  abbrev made : List Call
-  made = callsOf chain
-
-  abbrev sent : List ℕ
-  sent = sentBy made
-
-  is-begun : Begun before lent (begunSlot c) made
-  is-begun =
-      record {
-        accepted = ap (λ (r : Reply). r .number) (sym (c .promised)) ∙ accepted;
-        memory-bytes = memory-bytes;
-        sent-bytes = sent-bytes;
-        unended = unended;
-      }
-
-  since-begin : (P : State → Type 0) → P (fillBegin before (length lent) (begunSlot c) .state) → P (c .result .state)
-  since-begin P = subst (λ (r : Reply). P (r .state)) (sym (c .promised))
-
-  -- what holds of a call on what the begin and the chain leave holds of what such a call left
-  of-next : {p : Parts} → Step p → After chain p → (P : Called → Type 0) → {call : Call} → p .call ≡ call
-      → P (next before lent (begunSlot c) made call) → P (p .left)
-  of-next {p} step at P {call} is holds =
-      subst P (sym (after-list chain step at ∙ ap (calledAfter (c .result .state) lent made) is))
-      (since-begin (λ (s : State). P (calledAfter s lent made call)) holds)
-
-  -- a call after the begin and the chain: taken, refused, finished or cancelled as the bytes that the chain sent say
-  pub record FilledTied : Type 0 where
-    pub taken : {p : Parts} → Step p → After chain p → (chunk : List ℕ) → p .call ≡ feedFill chunk → AreBytes chunk
-        → begins before (sent ++ chunk) ≡ true → numberGiven (givenBy (p .left .seen)) ≡ 0
-    pub refused : {p : Parts} → Step p → After chain p → (chunk : List ℕ) → p .call ≡ feedFill chunk → AreBytes chunk
-        → begins before sent ≡ true → begins before (sent ++ chunk) ≡ false → SlotAfter before (begunSlot c) 4 (whitePicture before) (p .left)
-    pub finished : {p : Parts} → Step p → After chain p → p .call ≡ finishFill → good before sent ≡ true
-        → SlotAfter before (begunSlot c) 0 (pictureIn before sent) (p .left)
-    pub cut-short : {p : Parts} → Step p → After chain p → p .call ≡ finishFill → begins before sent ≡ true → good before sent ≡ false
-        → SlotAfter before (begunSlot c) 4 (whitePicture before) (p .left)
-    pub cancelled : {p : Parts} → Step p → After chain p → p .call ≡ cancelFill → begins before sent ≡ true
-        → SlotAfter before (begunSlot c) 0 (whitePicture before) (p .left)
-
-  pub fills-hold-tied : FilledTied
-  fills-hold-tied =
-      let f = fills-hold before lent (begunSlot c) made is-begun in
-      record {
-        taken = λ step at chunk is new e. of-next step at (λ q. numberGiven (givenBy (q .seen)) ≡ 0) is (f .taken chunk new e);
-        refused = λ step at chunk is new e g. of-next step at (SlotAfter before (begunSlot c) 4 (whitePicture before)) is (f .refused chunk new e g);
-        finished = λ step at is e. of-next step at (SlotAfter before (begunSlot c) 0 (pictureIn before sent)) is (f .finished e);
-        cut-short = λ step at is e g. of-next step at (SlotAfter before (begunSlot c) 4 (whitePicture before)) is (f .cut-short e g);
-        cancelled = λ step at is e. of-next step at (SlotAfter before (begunSlot c) 0 (whitePicture before)) is (f .cancelled e);
-      }
-
-  -- a file that is not good: the event of the first chunk after which the bytes so far begin no good file has 4, or finish gives it
-  pub data Earned4 : Type 0 where
-    from-chunk : (front : List Call) (chunk : List ℕ) (rest : List Call) → made ≡ front ++ (feedFill chunk ∷ rest)
-        → begins before (sentBy front) ≡ true → begins before (sentBy front ++ chunk) ≡ false
-        → (e : Event) (later : List Event) → drop (length front) events ≡ e ∷ later → numberGiven (givenBy e) ≡ 4 → Earned4
-    from-finish : begins before sent ≡ true
-        → ((p : Parts) → Step p → After chain p → p .call ≡ finishFill → numberGiven (givenBy (p .left .seen)) ≡ 4) → Earned4
-
-  pub bad-files-earn-4-tied : good before sent ≡ false → Earned4
-  bad-files-earn-4-tied bad = by-place (bad-files-earn-4 before lent (begunSlot c) made is-begun bad)
-    where
-      by-place : Earns4 before lent (begunSlot c) made → Earned4
-      by-place (spec.from-chunk front chunk rest is e g left) =
-          let from : State = c .result .state in
-          let late : drop (length front) events
-          ≡ calledAfter from lent front (feedFill chunk) .seen
-          ∷ eventsOf (calledAfter from lent front (feedFill chunk) .state) (calledAfter from lent front (feedFill chunk) .memory) rest =
-          ap (drop (length front)) (sym (listed chain .seen) ∙ ap (eventsOf from lent) is)
-          ∙ events-from from lent front (feedFill chunk ∷ rest) in
-          from-chunk front chunk rest is e g _ _ late
-          (since-begin (λ (s : State). numberGiven (givenBy (calledAfter s lent front (feedFill chunk) .seen)) ≡ 4) (left .answers))
-      by-place (spec.from-finish e left) =
-          from-finish e (λ p step at is. of-next step at (λ q. numberGiven (givenBy (q .seen)) ≡ 4) is (left .answers))
-
--- with no other call between: the state and the memory that such a fill leaves are those of the whole upload's contract
-pub fills-as-whole-tied : (c : BeginFill) → c .result .number ≡ 0 → AreBytes (beginParts c .memory) → {events : List Event} {u : List ℕ}
-    → (chain : Chain Step (c .result .state) (beginParts c .memory) events u) (chunks : List (List ℕ)) → callsOf chain ≡ map feedFill chunks
-    → AreBytes (sentBy (map feedFill chunks)) → {p : Parts} → Step p → After chain p → p .call ≡ finishFill
-    → (w : UploadBitmap) → bitmapParts w .state ≡ beginParts c .state → bitmapParts w .memory ≡ beginParts c .memory
-    → uploadedSlot w ≡ begunSlot c → uploadedFile w ≡ sentBy (map feedFill chunks)
-    → good (beginParts c .state) (sentBy (map feedFill chunks)) ≡ true
-    → (p .left .state ≡ bitmapParts w .left .state) × (p .left .memory ≡ bitmapParts w .left .memory)
-fills-as-whole-tied c accepted memory-bytes chain chunks are sent-bytes {p} step at is w same-state same-memory same-slot same-file fine =
-    let s : State = beginParts c .state in
-    let m : List ℕ = beginParts c .memory in
-    let b : Begun s m (begunSlot c) (map feedFill chunks) =
-    record {
-      accepted = ap (λ (r : Reply). r .number) (sym (c .promised)) ∙ accepted;
-      memory-bytes = memory-bytes;
-      sent-bytes = sent-bytes;
-      unended = all-chunks chunks;
-    } in
-    let whole = fills-as-whole s m (begunSlot c) chunks b fine in
-    let from : State = fillBegin s (length m) (begunSlot c) .state in
-    let last : p .left ≡ calledAfter from m (map feedFill chunks) finishFill =
-    after-list chain step at
-    ∙ ap (calledAfter (c .result .state) m (callsOf chain)) is
-    ∙ ap (λ (l : List Call). calledAfter (c .result .state) m l finishFill) are
-    ∙ ap (λ (r : Reply). calledAfter (r .state) m (map feedFill chunks) finishFill) (c .promised) in
-    let upload : bitmapUpload s m (begunSlot c) (sentBy (map feedFill chunks)) ≡ (w .result, bitmapParts w .left .memory) =
-    upload-same (sym same-state) (sym same-memory) (sym same-slot) (sym same-file) ∙ sym (w .promised) in (
-      ap (λ (q : Called). q .state) last
-          ∙ sym (state-append from m (map feedFill chunks) (finishFill ∷ []))
-          ∙ whole .0
-          ∙ ap (λ (r : Reply × List ℕ). r .0 .state) upload,
-      ap (λ (q : Called). q .memory) last
-          ∙ sym (memory-append from m (map feedFill chunks) (finishFill ∷ []))
-          ∙ whole .1
-          ∙ ap (λ (r : Reply × List ℕ). r .1) upload,
-    )
-
--- ---- summaries
 
 -- since an accepted opening every summary is a fresh count, after every chain of calls
 module _ (o : Open) (accepted : o .result .number ≡ 0) {events : List Event} {u : List ℕ}
