@@ -4,15 +4,13 @@
 # make bench      compares with plain C, and writes docs/BENCHMARKS.md
 # make layout     draws a layout's leaves as outlines; LIST="01 00" draws another list of boxes
 # make ghosting   simulates a season of trainees' mistakes, and writes docs/GHOSTING.md
-.PHONY: demo demo-finish layout test tests test-c test-programs test-store build bench ghosting clean
+.PHONY: demo demo-finish layout test tests test-c test-programs test-store build libraries bench ghosting clean
 
 SHELL = /bin/bash
 CFLAGS = -std=c99 -O2 -Wall -Wextra -pedantic
 LIBRARY = target/staticlib/libstart_board.a
 OUT = target/tests
 PYTHON = python3 -B
-# Checks and edits are started in batches, and a batch waits for its slowest: four at a time keep two cores busy.
-export RT_JOBS ?= 4
 
 demo:
 	@$(PYTHON) -m demo.board --only-arguments $(PANELS)
@@ -37,9 +35,11 @@ layout:
 test: tests
 	rt ci
 
-# What the tests run: the static libraries and the programs. Only proved crates are built.
+# What the tests run: the programs and the static libraries. Only proved crates are built.
 build:
 	rt check start_board update_loop by_dots settings_list bitmap_normal bitmap_mend layout_list replay
+
+libraries:
 	rt staticlib start_board
 	rt staticlib update_loop
 	rt staticlib by_dots
@@ -50,7 +50,7 @@ tests: build
 	@$(MAKE) --no-print-directory --jobs=2 --output-sync=target test-store test-programs test-c
 
 # The calls for C, and the update loop.
-test-c:
+test-c: libraries
 	@echo "== the three C calls against an independent implementation"
 	$(CC) $(CFLAGS) -Iinclude -o $(OUT)/calls tests/calls/compare.c tests/calls/reference.c $(LIBRARY)
 	$(OUT)/calls
@@ -73,7 +73,7 @@ test-c:
 	$(PYTHON) -m bench.run --compare
 
 # The programs, but for `replay`.
-test-programs:
+test-programs: libraries
 	@echo "== the listing program against an independent implementation"
 	$(PYTHON) -m tests.listing.compare target/bin/settings_list
 	@echo "== bitmaps made by other tools, and damaged ones"
@@ -99,10 +99,7 @@ test-store:
 	$(PYTHON) -m tests.formats
 	$(PYTHON) -m ghosting.season --check
 
-bench:
-	rt staticlib start_board
-	rt staticlib update_loop
-	rt staticlib by_dots
+bench: libraries
 	$(PYTHON) -m bench.run
 
 ghosting:
