@@ -1,10 +1,11 @@
 # make demo       shows the driver at work on simulated panels; PANELS="1.44 2" picks some
-# make test       runs every test, then proves everything from nothing (the gate)
+# make test       proves everything from nothing, then runs every test on what was proved (the gate)
 # make tests      the tests outside Rattle alone
 # make bench      compares with plain C, and writes docs/BENCHMARKS.md
 # make layout     draws a layout's leaves as outlines; LIST="01 00" draws another list of boxes
 # make ghosting   simulates a season of trainees' mistakes, and writes docs/GHOSTING.md
-.PHONY: demo demo-finish layout test tests test-c test-programs test-store build libraries bench ghosting clean
+# make gate-costs measures what the proofs of the gate cost, crate by crate, and writes docs/GATE.md
+.PHONY: demo demo-finish layout test tests test-c test-programs test-store build libraries bench ghosting gate-costs clean
 
 SHELL = /bin/bash
 CFLAGS = -std=c99 -O2 -Wall -Wextra -pedantic
@@ -32,10 +33,10 @@ layout:
 	rt check layout_list
 	@$(PYTHON) -m demo.layout $(LIST)
 
-test: tests
-	rt ci
+test:
+	@.ci/run
 
-# What the tests run: the programs and the static libraries. Only proved crates are built.
+# What the tests run: the programs and the static libraries. Only proved crates are built, and what is proved already is not proved again.
 build:
 	rt check start_board update_loop by_dots settings_list bitmap_normal bitmap_mend layout_list replay
 
@@ -94,8 +95,11 @@ test-store:
 	$(PYTHON) -m tests.replay.whole
 	@echo "== random scripts of calls against an independent implementation, with the sums read from the bytes handed out"
 	$(PYTHON) -m tests.replay.compare target/bin/replay
-	@echo "== the picture of the crates, the examples of FORMATS.md and the figures of GHOSTING.md"
+	@echo "== the gate's script, where proofs or tests fail"
+	$(PYTHON) -m tests.gate
+	@echo "== the picture of the crates, the crates and edits of GATE.md, the examples of FORMATS.md and the figures of GHOSTING.md"
 	$(PYTHON) docs/crates.py --check
+	$(PYTHON) -m bench.gate --check
 	$(PYTHON) -m tests.formats
 	$(PYTHON) -m ghosting.season --check
 
@@ -105,6 +109,9 @@ bench: libraries
 ghosting:
 	rt check replay
 	$(PYTHON) -m ghosting.season
+
+gate-costs:
+	$(PYTHON) -m bench.gate
 
 clean:
 	rm -rf target

@@ -6,13 +6,13 @@ import sys
 
 KIT = {"io", "libc", "os", "check", "bytes"}  # the toolchain's own crates
 LISTED, PICTURE = "crates.txt", "docs/crates.svg"
-ROOM, GAP, FLOOR, HIGH, LEFT = 118, 26, 84, 34, 20
+ROOM, GAP, FLOOR, HIGH, LEFT = 152, 20, 84, 34, 20
 
 
-def read():
+def read(listed=LISTED):
     """crate: those of the repository that it stands on."""
     stands = {}
-    with open(LISTED, encoding="ascii") as file:
+    with open(listed, encoding="ascii") as file:
         for line in file:
             name, colon, below = line.split("#")[0].partition(":")
             if colon:
@@ -88,4 +88,5 @@ def main():
             file.write(drawn)
 
 
-main()
+if __name__ == "__main__":
+    main()

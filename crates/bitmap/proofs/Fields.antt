@@ -1,26 +1,23 @@
--- Laws of the table of fields, and of the loops that go over it.
+-- Laws of the table of fields, and of the loops that ask each field.
 -- Assumes nothing.
 use mathlib.Core.Path.{_≡_, refl, sym, ap, _∙_}
 use mathlib.Core.Bool.{Bool, true, false}
-use mathlib.Core.List.{List, [], _∷_, _++_, map, append-assoc, append-nil}
+use mathlib.Core.List.{List, [], _∷_, map}
 use Prim.Native.Nat.{ℕ, zero, suc, _+_, _≤_, _<_}
 use native.Mathlib.Numerals.{add-one}
 use native.Mathlib.Omega.{arith}
-use borrow.Author.Tests.{eqb-true, leb-true}
-use lib.Dec.{eqb, leb}
+use borrow.Author.Tests.{eq-eqb, leb-true}
+use lib.Dec.{leb}
 use lib.ListN.{length, getD, take, length-map}
-use lib.Seq.{take-suc}
 use Rattle.lists.proofs.Elements.{at-map}
 use Rattle.lists.specs.Rules.{every}
-use Rattle.lists.proofs.Parts.{part-next}
 use Rattle.lists.proofs.Rules.{and-left, and-right, broken, below-all}
-use Rattle.lists.specs.Lists.{overlayAt}
 use Rattle.bitmap.specs.declared.Field.{Field}
 use Rattle.bitmap.specs.declared.Entry.{Entry}
 use Rattle.bitmap.specs.declared.Also.the-variants.{Only}
-use Rattle.bitmap.specs.Numbers.{numberBytes}
+use Rattle.bitmap.specs.Numbers.{numberAt}
 use Rattle.bitmap.specs.Table.{fieldOf}
-use Rattle.bitmap.specs.Header.{headerLength, field, headerFields, fieldsBytes}
+use Rattle.bitmap.specs.Header.{headerLength, field, headerFields, fieldGood}
 
 -- the field at place i of the table, and what stands for one where it has none
 abbrev pub noField : Field
@@ -56,6 +53,10 @@ module _ (b h s i : ℕ) (low : i < 17) where
   pub field-small : fieldAt b h s i .size ≤ 4
   field-small = leb-true _ _ (below-all 17 (λ k. leb (fieldAt b h s k .size) 4) refl i low)
 
+-- a field that reads as the number that is written there is good
+pub held : (file : List ℕ) (f : Field) → numberAt (f .size) file (f .at) ≡ f .number → fieldGood file f ≡ true
+held file f e = rw (eq-eqb _ (f .number) e)
+
 -- ---- the tests of a loop that asks each field
 
 module _ (test : Field → Bool) (b h s : ℕ) where
@@ -73,36 +74,3 @@ module _ (test : Field → Bool) (b h s : ℕ) where
     -- one field more of which it holds
     pub field-next : every (take i tests) ≡ true → test f ≡ true → every (take (i + 1) tests) ≡ true
     field-next all g = rw add-one (every-next i tests all (sym test-at ∙ g))
-
--- ---- the writer
-
-bytes-append : (fields : List Field) (f : Field) → fieldsBytes (fields ++ (f ∷ [])) ≡ fieldsBytes fields ++ numberBytes (f .size) (f .number)
-bytes-append [] f = append-nil (numberBytes (f .size) (f .number))
-bytes-append (g ∷ fields) f =
-    ap (λ (l : List ℕ). numberBytes (g .size) (g .number) ++ l) (bytes-append fields f)
-    ∙ sym (append-assoc (numberBytes (g .size) (g .number)) (fieldsBytes fields) (numberBytes (f .size) (f .number)))
-
-module _ (b h s : ℕ) where
-  -- the first fields, as bytes
-  abbrev pub front : (i : ℕ) → List ℕ
-  front i = fieldsBytes (take i (headerFields b h s))
-
-  -- each field begins where those before it end
-  no-gap : (i : ℕ) → i < 17 → fieldAt b h s i .at ≡ length (front i)
-  no-gap i low = eqb-true _ _ (below-all 17 (λ k. eqb (fieldAt b h s k .at) (length (front k))) refl i low)
-
-  front-more : (i : ℕ) → i < 17 → front (i + 1) ≡ front i ++ numberBytes (fieldAt b h s i .size) (fieldAt b h s i .number)
-  front-more i low =
-      rw add-one
-      (ap fieldsBytes (take-suc (headerFields b h s) i noField low)
-      ∙ bytes-append (take i (headerFields b h s)) (fieldAt b h s i))
-
-  -- one field more, right after those that are there already
-  pub written-next : (i : ℕ) → i < 17 → (f : Field) → f ≡ fieldAt b h s i → (out : List ℕ) {d e : List ℕ}
-      → headerLength ≤ length out → d ≡ overlayAt 0 (front i) out → e ≡ overlayAt (f .at) (numberBytes (f .size) (f .number)) d
-      → e ≡ overlayAt 0 (front (i + 1)) out
-  written-next i low f is out room p q =
-      let begins : f .at ≡ length (front i) = ap (λ (g : Field). g .at) is ∙ no-gap i low in
-      let ends : f .at + f .size ≤ headerLength = rw is (field-within b h s i low) in
-      rw (front-more i low, ← is)
-      (part-next 0 out (front i) (numberBytes (f .size) (f .number)) (f .at) p q (omega (arith, begins)) (omega arith))

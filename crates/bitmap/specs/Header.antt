@@ -3,12 +3,12 @@
 -- Assumes nothing.
 use Prim.Native.Nat.{ℕ, _+_, _*_}
 use mathlib.Core.Bool.{Bool, true, false, _||_}
-use mathlib.Core.List.{List, [], _∷_, _++_}
+use mathlib.Core.List.{List, [], _∷_}
 use lib.Dec.{eqb}
 use Rattle.bitmap.specs.declared.Also.{Also}
 use Rattle.bitmap.specs.declared.Also.the-variants.{Only, Or, OrAnything}
 use Rattle.bitmap.specs.declared.Field.{Field}
-use Rattle.bitmap.specs.Numbers.{numberAt, numberBytes}
+use Rattle.bitmap.specs.Numbers.{numberAt}
 use Rattle.bitmap.specs.Palettes.{black, white}
 
 -- the bytes before the rows
@@ -54,12 +54,3 @@ alsoGood OrAnything found = true
 -- a field is good where it holds its own number, or what else it may
 abbrev pub fieldGood : (file : List ℕ) → Field → Bool
 fieldGood file f = eqb (numberAt (f .size) file (f .at)) (f .number) || alsoGood (f .also) (numberAt (f .size) file (f .at))
-
--- the numbers of fields, as bytes
-abbrev pub fieldsBytes : List Field → List ℕ
-fieldsBytes [] = []
-fieldsBytes (f ∷ fields) = numberBytes (f .size) (f .number) ++ fieldsBytes fields
-
--- what the writer puts before the rows: the number of each field
-unfoldable pub header : (b h s : ℕ) → List ℕ
-header b h s = fieldsBytes (headerFields b h s)

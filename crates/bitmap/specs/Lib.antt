@@ -1,4 +1,4 @@
--- Bitmap files: the rules, the ways between a file and a picture, and the check's answer.
+-- Bitmap files: their numbers, palettes and fields, and the check's answer.
 pub mod Numbers
 pub mod Palettes
 pub mod Header

@@ -16,8 +16,9 @@ use Rattle.picture.specs.Slots.{pictureOf, rawOf}
 use Rattle.picture.proofs.Pictures.{Bytes}
 use Rattle.picture.proofs.Slots.{picture-raw}
 use Rattle.bitmap.specs.Header.{fileLength}
-use Rattle.bitmap.specs.Bitmap.{bitmapGood, readPicture, writtenFile, normalForm}
-use Rattle.bitmap.proofs.RoundTrip.{rows-read, write-read}
+use Rattle.bitmap.specs.Bitmap.{bitmapGood}
+use Rattle.bitmap_codec.specs.Codec.{readPicture, writtenFile, normalForm}
+use Rattle.bitmap_codec.proofs.RoundTrip.{rows-read, write-read}
 use Rattle.bitmap_normal.specs.Normal.{normalized}
 
 pub good-length : (b h s : ℕ) (file : List ℕ) → bitmapGood b h s file ≡ true → length file ≡ fileLength h s

@@ -18,8 +18,8 @@ fn normalize(b: usize, h: usize, s: usize, file: &[u8], picture: &mut [u8], out:
     if !bitmap::bitmap_good(b, h, s, file) {
         return 0;
     }
-    bitmap::read_bitmap(b, h, s, file, picture);
-    bitmap::write_bitmap(b, h, s, picture, out)
+    bitmap_codec::read_bitmap(b, h, s, file, picture);
+    bitmap_codec::write_bitmap(b, h, s, picture, out)
 }
 
 // Room for the largest picture.

@@ -18,11 +18,11 @@ use Rattle.settings.proofs.Accepted.{good-panel}
 use Rattle.picture.specs.Slots.{slotPicture, withPicture}
 use Rattle.picture.specs.Regions.{payloadRow, regionCases, withRegion}
 use Rattle.picture.proofs.Slots.{rows-overdrawn}
-use Rattle.bitmap.proofs.RoundTrip.{length-read}
+use Rattle.bitmap_codec.proofs.RoundTrip.{length-read}
 use Rattle.fill.specs.Fills.{begunFill}
-use Rattle.fill.specs.Feeding.{feeding, finishing, cancelling}
+use Rattle.fill_calls.specs.Calls.{feeding, finishing, cancelling}
 use Rattle.fill.specs.declared.Fill.{Fill}
-use Rattle.fill.specs.declared.Fed.{Fed}
+use Rattle.fill_calls.specs.declared.Fed.{Fed}
 use Rattle.summary.specs.Summaries.{emptySummary}
 use Rattle.summary.specs.declared.Summary.{Summary}
 use Rattle.run.specs.Clock.{passedAt}

@@ -19,16 +19,18 @@ use Rattle.lists.specs.Rules.{case, firstOf}
 use Rattle.lists.proofs.Parts.{part-length}
 use Rattle.lists.proofs.Rules.{by-test}
 use Rattle.fill.specs.declared.Fill.{Fill}
-use Rattle.fill.specs.declared.Fed.{Fed}
+use Rattle.fill_calls.specs.declared.Fed.{Fed}
 use Rattle.bitmap.specs.Header.{fileLength}
 use Rattle.bitmap_prefix.specs.Begins.{beginsGood}
 use Rattle.fill.specs.Fills.{emptyFill, rowsCome, fillOf}
-use Rattle.fill.specs.Feeding.{bytesFed, goesOn, fed, ended, feeding, finishing, cancelling}
+use Rattle.fill.specs.Feeding.{bytesFed}
+use Rattle.fill_calls.specs.Calls.{goesOn, fed, ended, feeding, finishing, cancelling}
 use Rattle.fill.specs.Conditions.{fillValid}
-use Rattle.fill.proofs.Kept.{long, Stands, stands, valid-kept, valid-ended}
-use Rattle.fill.proofs.SoFar.{fill-so-far}
+use Rattle.fill.proofs.Kept.{long, Stands, stands}
+use Rattle.fill_calls.proofs.Kept.{valid-kept, valid-ended}
+use Rattle.fill_calls.proofs.SoFar.{fill-so-far}
 use Rattle.fill.proofs.Written.{chunk-unwritten}
-use Rattle.fill.proofs.Sizes.{length-fed, length-finished, rows-cancelled}
+use Rattle.fill_calls.proofs.Sizes.{length-fed, length-finished, rows-cancelled}
 use Rattle.slots.specs.Slots.{chunkWrites, finishWrites}
 use Rattle.store.specs.Refusals.{isFilling}
 use Rattle.store.proofs.Conditions.{valid-state}

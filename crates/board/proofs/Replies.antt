@@ -28,9 +28,9 @@ use Rattle.poll.specs.declared.Answer.{Answer}
 use Rattle.poll.specs.declared.Answer.the-variants.{Refused}
 use Rattle.poll.specs.declared.Handed.{Handed}
 use Rattle.fill.specs.Fills.{begunFill}
-use Rattle.fill.specs.Feeding.{feeding, finishing, cancelling}
+use Rattle.fill_calls.specs.Calls.{feeding, finishing, cancelling}
 use Rattle.fill.specs.declared.Fill.{Fill}
-use Rattle.fill.specs.declared.Fed.{Fed}
+use Rattle.fill_calls.specs.declared.Fed.{Fed}
 use Rattle.slots.specs.Slots.{regionDrawn, bitmapCases, bitmapDrawn, countedIn, onSlot, chunkWrites, finishWrites, bitmapWritten}
 use Rattle.slots.specs.Facts.{bitmapPlaced, regionPlaced}
 use Rattle.store.specs.Store.{setPhase, setFill, setSummaries}

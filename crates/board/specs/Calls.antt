@@ -11,8 +11,8 @@ use Rattle.lists.specs.Rules.{Case, firstOf}
 use Rattle.panel.specs.declared.Shape.{Shape}
 use Rattle.picture.specs.Regions.{regionCases}
 use Rattle.fill.specs.Fills.{begunFill}
-use Rattle.fill.specs.Feeding.{feeding, finishing, cancelling}
-use Rattle.fill.specs.declared.Fed.{Fed}
+use Rattle.fill_calls.specs.Calls.{feeding, finishing, cancelling}
+use Rattle.fill_calls.specs.declared.Fed.{Fed}
 use Rattle.summary.specs.Summaries.{emptySummary}
 use Rattle.summary.specs.declared.Summary.{Summary}
 use Rattle.run.specs.Runs.{begun}

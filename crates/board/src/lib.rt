@@ -30,7 +30,7 @@ ghost use Rattle.board.specs.Facts.{drawnReply};
 
 mod runs;
 
-use fill::Fed;
+use fill_calls::Fed;
 use panel::Shape;
 use poll::Answer;
 use run::Phase;
@@ -39,7 +39,6 @@ use settings::Settings;
 use store::Store;
 use store::checks;
 use store::checks::Checked;
-use store::refusals;
 use summary::Summary;
 
 // The state of a store: its settings file, and what changes. docs/STATE.md has the conditions that it keeps.

@@ -18,9 +18,9 @@ use Rattle.picture.proofs.Slots.{Rows, raw-picture, rows-picture}
 use Rattle.bitmap.specs.Numbers.{numberAt}
 use Rattle.bitmap.specs.Header.{headerLength}
 use Rattle.bitmap.specs.Palettes.{paletteOf, dotsOf}
-use Rattle.bitmap.specs.Bitmap.{readPicture}
+use Rattle.bitmap_codec.specs.Codec.{readPicture}
 use Rattle.bitmap.specs.declared.Palette.the-variants.{Neither}
-use Rattle.bitmap.proofs.RoundTrip.{length-read}
+use Rattle.bitmap_codec.proofs.RoundTrip.{length-read}
 use Rattle.fill.specs.Fills.{fillWith, noneKept, rowsCome, keptCount, fillOf, slotOf}
 use Rattle.fill.proofs.Pieces.{count-in, rows-in}
 

@@ -1,7 +1,7 @@
--- The conditions of a fill hold of exactly the fills that bytes of a good file leave. So every call keeps them.
+-- The conditions of a fill hold of exactly the fills that bytes of a good file leave.
 -- Assumes nothing.
 use mathlib.Core.Path.{_≡_, refl, sym, ap, _∙_}
-use mathlib.Core.Bool.{Bool, true, false, cond, not, _&&_, _||_, or-true, false≢true}
+use mathlib.Core.Bool.{true, not, _&&_, _||_, or-true, false≢true}
 use mathlib.Core.List.{List, [], _∷_, _++_}
 use Prim.Native.Nat.{ℕ, zero, suc, _+_, _-_, _*_, _/_, _%_, _≤_, _<_}
 use native.Mathlib.Omega.{arith}
@@ -11,9 +11,9 @@ use lib.Dec.{eqb}
 use lib.ListN.{length, getD, take, drop, replicate, length-append, length-drop, take-append-drop}
 use lib.Seq.{take-at, drop-at, length-take-le}
 use Rattle.lists.specs.Lists.{overlay}
-use Rattle.lists.specs.Rules.{every, case, firstOf}
+use Rattle.lists.specs.Rules.{every}
 use Rattle.lists.proofs.Lists.{length-overlay}
-use Rattle.lists.proofs.Rules.{none, keep, all-kept, holds, and-left, and-right, by-test}
+use Rattle.lists.proofs.Rules.{none, keep, all-kept, holds, and-left, and-right}
 use Rattle.picture.proofs.Pictures.{Bytes, bytes-take, bytes-append}
 use Rattle.bitmap.specs.Header.{headerLength, fileLength}
 use Rattle.bitmap.specs.Palettes.{paletteOf, blackAndWhite}
@@ -25,13 +25,10 @@ use Rattle.bitmap_prefix.proofs.Begins.{both, begins-fits, begins-header, begin
 use Rattle.bitmap_prefix.proofs.Whole.{begins-palette, good-length, good-begins}
 use Rattle.bitmap_prefix.proofs.Meaning.{good-with}
 use Rattle.fill.specs.Fills.{fillWith, noneKept, begunFill, emptyFill, keptCount, fillOf}
-use Rattle.fill.specs.Feeding.{fed, ended, feeding, finishing, cancelling}
 use Rattle.fill.specs.Conditions.{allZero, headerRule, fillRules, fillValid}
 use Rattle.fill.specs.declared.Fill.{Fill}
-use Rattle.fill.specs.declared.Fed.{Fed}
 use Rattle.fill.proofs.Pieces.{row-of, row-part}
 use Rattle.fill.proofs.Fills.{fill-header, fill-row, palette-same}
-use Rattle.fill.proofs.SoFar.{fill-so-far}
 
 -- ---- zeros
 
@@ -228,31 +225,3 @@ module _ (b h s : ℕ) (some : 0 < b) (narrow : b ≤ 33) (within : b ≤ s) (st
       go : Stands fill valid → fill ≡ emptyFill
       go (l, are, begins, is, e) =
           e ∙ ap (λ (k : ℕ). fillOf s k l) absent ∙ ap (fillOf s 0) (no-bytes l (is ∙ came))
-
-  -- ---- every call keeps the conditions
-
-  module _ (fill : Fill) (valid : fillValid b h s fill ≡ true) (begun : eqb (fill .slot) 0 ≡ false) (chunk raw : List ℕ) where
-    -- a chunk, taken or refused
-    pub valid-kept : fillValid b h s (feeding b h s fill chunk raw .0 .fill) ≡ true
-    valid-kept = go (stands fill valid)
-      where
-        go : Stands fill valid → fillValid b h s (feeding b h s fill chunk raw .0 .fill) ≡ true
-        go (l, are, begins, is, e) =
-            let slot : ℕ = fill .slot in
-            let more : Fed = fed 0 (fillOf s slot (l ++ chunk)) in
-            let f : feeding b h s fill chunk raw .0 ≡ cond (beginsGood b h s (l ++ chunk)) more (fed 4 emptyFill) =
-            ap (λ (x : Fill). feeding b h s x chunk raw .0) e ∙ fill-so-far b h s pos (omega arith) slot l begins chunk raw in
-            rw f
-            (by-test (λ (r : Fed). fillValid b h s (r .fill) ≡ true) (beginsGood b h s (l ++ chunk)) more (fed 4 emptyFill)
-            (λ t. valid-of slot (l ++ chunk) t (rw begun)) (λ t. valid-begun 0))
-
-  -- the end of a file, taken or refused, and a fill that is given up
-  pub valid-ended : (fill : Fill) (raw : List ℕ)
-      → (fillValid b h s (finishing b h s fill raw .0 .fill) ≡ true) × (fillValid b h s (cancelling b h .0 .fill) ≡ true)
-  unfolding finishing cancelling
-  valid-ended fill raw = (go (eqb (fill .came) (fileLength h s)), valid-begun 0)
-    where
-      go : (t : Bool)
-          → fillValid b h s (firstOf {A = Fed × List ℕ} (case (not t) 4 ∷ []) (ended b h) (fed 0 emptyFill, raw) .0 .fill) ≡ true
-      go true = valid-begun 0
-      go false = valid-begun 0

@@ -1,33 +1,30 @@
--- What the calls leave of a slot has as many bytes as before, and is bytes where the slot, the fill and the chunk are.
+-- What the bytes of a chunk leave of a slot has as many bytes as before, and is bytes where the slot, the fill and the chunk are.
 -- Assumes nothing.
 use mathlib.Core.Path.{_≡_, refl, _∙_}
-use mathlib.Core.Bool.{Bool, true, false, cond, not}
+use mathlib.Core.Bool.{cond}
 use mathlib.Core.List.{List, [], _∷_, _++_, map}
 use Prim.Native.Nat.{ℕ, zero, suc, _+_, _-_, _*_, _≤_, _<_}
 use native.Mathlib.Omega.{arith}
 use native.Mathlib.Decide.{ℕ-discrete}
 use borrow.Author.Tests.{eq-eqb, ne-eqb}
-use lib.ListN.{length, take, drop, replicate, length-map, length-replicate}
+use lib.ListN.{length, take, drop, replicate, length-map}
 use lib.Dec.{eqb}
 use lib.Seq.{length-take-le}
 use Rattle.lists.specs.Lists.{overlayAt}
-use Rattle.lists.specs.Rules.{case, firstOf}
 use Rattle.lists.proofs.Lists.{length-overlayAt}
 use Rattle.lists.proofs.Parts.{more-rows}
 use Rattle.picture.specs.Slots.{pictureOf}
 use Rattle.picture.proofs.Pictures.{Bytes, bytes-take, bytes-drop, bytes-append}
-use Rattle.picture.proofs.Slots.{Rows, length-raw, length-picture, rows-picture, rows-raw}
+use Rattle.picture.proofs.Slots.{length-raw, length-picture, rows-picture, rows-raw}
 use Rattle.bitmap.specs.Header.{headerLength, fileLength}
 use Rattle.bitmap.specs.Palettes.{dotsOf}
 use Rattle.bitmap.specs.declared.Palette.{Palette}
 use Rattle.bitmap.proofs.Palettes.{dots-lt}
-use Rattle.fill.specs.Fills.{emptyFill, rowsCome, keptCount}
-use Rattle.fill.specs.Feeding.{keeping, withRow, completed, pieceFed, bytesFed, goesOn}
-use Rattle.fill.specs.Feeding.{fed, whiteSlot, ended, feeding, finishing, cancelling}
+use Rattle.fill.specs.Fills.{rowsCome, keptCount}
+use Rattle.fill.specs.Feeding.{keeping, withRow, completed, pieceFed, bytesFed}
 use Rattle.fill.specs.declared.Fill.{Fill}
-use Rattle.fill.specs.declared.Fed.{Fed}
 use Rattle.fill.proofs.Pieces.{count-lt, rows-some, rows-few, part-le}
-use Rattle.fill.proofs.Taken.{piece-came, goes-fits}
+use Rattle.fill.proofs.Taken.{piece-came}
 
 -- ---- bytes stay bytes
 
@@ -36,7 +33,7 @@ bytes-map f h [] are k = omega arith
 bytes-map f h (x ∷ l) are zero = h x (are 0)
 bytes-map f h (x ∷ l) are (suc k) = bytes-map f h l (λ i. are (suc i)) k
 
-bytes-same : (n v : ℕ) → v < 256 → Bytes (replicate n v)
+pub bytes-same : (n v : ℕ) → v < 256 → Bytes (replicate n v)
 bytes-same zero v h k = omega arith
 bytes-same (suc n) v h zero = h
 bytes-same (suc n) v h (suc k) = bytes-same n v h k
@@ -74,7 +71,7 @@ module _ (b h : ℕ) (some : 0 < b) (palette : Palette) (y : ℕ) (low : y < h) 
 
 module _ (b h s : ℕ) (some : 0 < b) (narrow : b ≤ 33) (within : b ≤ s) (stride : s ≤ 36) where
   -- a fill and a slot of the right lengths, and bytes where others are
-  abbrev Sound : (here : Fill × List ℕ) (are : Type 0) → Type 0
+  abbrev pub Sound : (here : Fill × List ℕ) (are : Type 0) → Type 0
   Sound here are =
       (length (here .0 .kept) ≡ headerLength) × (length (here .1) ≡ h * b) × (are → Bytes (here .0 .kept) × Bytes (here .1))
 
@@ -134,62 +131,10 @@ module _ (b h s : ℕ) (some : 0 < b) (narrow : b ≤ 33) (within : b ≤ s) (st
           )))
       go (no n) = rw (ne-eqb (keptCount s (fill .came + 1)) 0 n) kept
 
-  chunk-sound : (chunk : List ℕ) (fill : Fill) (raw : List ℕ) (are : Type 0) → Sound (fill, raw) are → (are → Bytes chunk)
+  pub chunk-sound : (chunk : List ℕ) (fill : Fill) (raw : List ℕ) (are : Type 0) → Sound (fill, raw) are → (are → Bytes chunk)
       → fill .came + length chunk ≤ fileLength h s → Sound (bytesFed b h s (fill, raw) chunk) are
   chunk-sound [] fill raw are sound bytes fits = sound
   chunk-sound (x ∷ chunk) fill raw are sound bytes fits =
       let one : Fill × List ℕ = pieceFed b h s fill raw (x ∷ []) in
       chunk-sound chunk (one .0) (one .1) are (byte-sound fill raw x are sound (λ a. bytes a 0) (omega arith)) (λ a k. bytes a (suc k))
       (omega (arith, piece-came b h s fill raw (x ∷ [])))
-
-  -- ---- the calls
-
-  white-size : length (whiteSlot b h) ≡ h * b
-  white-size = length-replicate {A = ℕ} (h * b) 0xFF
-
-  white-rows : Rows b h (whiteSlot b h)
-  white-rows = (white-size, bytes-same (h * b) 0xFF (omega arith))
-
-  module _ (fill : Fill) (long : length (fill .kept) ≡ headerLength) (raw : List ℕ) (size : length raw ≡ h * b) where
-    fed-left : (chunk : List ℕ) (are : Type 0) → (are → Bytes (fill .kept) × Bytes raw × Bytes chunk)
-        → (length (feeding b h s fill chunk raw .1) ≡ h * b) × (are → Bytes (feeding b h s fill chunk raw .1))
-    unfolding feeding
-    fed-left chunk are bytes = go (goesOn b h s fill chunk) refl
-      where
-        go : (t : Bool) → goesOn b h s fill chunk ≡ t
-            → (length (firstOf {A = Fed × List ℕ} (case (not t) 4 ∷ []) (ended b h)
-            (fed 0 (bytesFed b h s (fill, raw) chunk .0), bytesFed b h s (fill, raw) chunk .1) .1) ≡ h * b)
-            × (are → Bytes (firstOf {A = Fed × List ℕ} (case (not t) 4 ∷ []) (ended b h)
-            (fed 0 (bytesFed b h s (fill, raw) chunk .0), bytesFed b h s (fill, raw) chunk .1) .1))
-        go true e =
-            let sound = chunk-sound chunk fill raw are (long, size, λ a. (bytes a .0, bytes a .1)) (λ a. bytes a .2)
-            (goes-fits b h s fill chunk e) in
-            (sound .1, λ a. sound .2 a .1)
-        go false e = (white-size, λ a. white-rows .1)
-
-    -- a chunk, taken or refused
-    pub length-fed : (chunk : List ℕ) → length (feeding b h s fill chunk raw .1) ≡ h * b
-    length-fed chunk = fed-left chunk ⊥ (λ a. absurd a) .0
-
-    pub rows-fed : Bytes (fill .kept) → Bytes raw → (chunk : List ℕ) → Bytes chunk → Rows b h (feeding b h s fill chunk raw .1)
-    rows-fed bk br chunk bc = let left = fed-left chunk ℕ (λ a. (bk, br, bc)) in (left .0, left .1 0)
-
-  -- the end of a file, taken or refused, and a fill that is given up
-  module _ (fill : Fill) (raw : List ℕ) where
-    finished-left : (P : List ℕ → Type 0) → P raw → P (whiteSlot b h) → P (finishing b h s fill raw .1)
-    unfolding finishing
-    finished-left P old white = go (eqb (fill .came) (fileLength h s))
-      where
-        go : (t : Bool) → P (firstOf {A = Fed × List ℕ} (case (not t) 4 ∷ []) (ended b h) (fed 0 emptyFill, raw) .1)
-        go true = old
-        go false = white
-
-    pub length-finished : length raw ≡ h * b → length (finishing b h s fill raw .1) ≡ h * b
-    length-finished size = finished-left (λ l. length l ≡ h * b) size white-size
-
-    pub rows-finished : Rows b h raw → Rows b h (finishing b h s fill raw .1)
-    rows-finished rows = finished-left (Rows b h) rows white-rows
-
-  pub rows-cancelled : Rows b h (cancelling b h .1)
-  unfolding cancelling
-  rows-cancelled = white-rows

@@ -17,9 +17,9 @@ use Rattle.picture.proofs.Pictures.{Bytes, bytes-take, bytes-drop, bytes-append
 use Rattle.picture.proofs.Slots.{Rows, picture-raw, rows-picture}
 use Rattle.bitmap.specs.Header.{headerLength, fileLength}
 use Rattle.bitmap.specs.Palettes.{paletteOf, dotsOf}
-use Rattle.bitmap.specs.Bitmap.{readPicture}
-use Rattle.bitmap.proofs.RoundTrip.{length-read, rows-read}
-use Rattle.bitmap.proofs.Rows.{read-row}
+use Rattle.bitmap_codec.specs.Codec.{readPicture}
+use Rattle.bitmap_codec.proofs.RoundTrip.{length-read, rows-read}
+use Rattle.bitmap_codec.proofs.Rows.{read-row}
 use Rattle.fill.specs.Fills.{fillWith, noneKept, rowsCome, keptCount, fillOf, slotOf}
 use Rattle.fill.specs.Facts.{partLength}
 use Rattle.bitmap.specs.declared.Palette.the-variants.{Neither}

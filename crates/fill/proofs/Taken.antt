@@ -2,32 +2,30 @@
 -- Assumes nothing.
 use mathlib.Core.Path.{_≡_, refl, sym, ap, _∙_}
 use mathlib.Core.Bool.{Bool, true, false, _&&_, and-false, and-true, and-assoc}
-use mathlib.Core.List.{List, [], _++_, append-assoc}
-use Prim.Native.Nat.{ℕ, suc, _+_, _-_, _*_, _≤_, _<_, min}
+use mathlib.Core.List.{List, []}
+use Prim.Native.Nat.{ℕ, suc, _+_, _-_, _≤_, _<_, min}
 use native.Mathlib.Nat.{add-sub-cancel-left}
 use native.Mathlib.Omega.{arith}
 use native.Mathlib.Numerals.{add-one}
-use native.Mathlib.Decide.{decLe, ℕ-discrete}
-use borrow.Author.Tests.{lt-ltb, le-ltb, le-leb, lt-leb, leb-true, eq-eqb, ne-eqb}
+use native.Mathlib.Decide.{ℕ-discrete}
+use borrow.Author.Tests.{lt-ltb, le-ltb, eq-eqb, ne-eqb}
 use lib.Bits.{bitOr, or-zero-l, or-add-and, and-le-r}
-use lib.Dec.{eqb, leb}
-use lib.ListN.{length, getD, take, drop, replicate, length-append, length-drop, length-replicate, take-append-drop, drop-of-length-le}
+use lib.Dec.{eqb}
+use lib.ListN.{length, getD, take, drop, length-drop, drop-of-length-le}
 use mir.Syntax.{w64}
 use mir.Val.{Fits}
-use lib.Seq.{take-all, drop-cons, drop-drop, length-take-le}
+use lib.Seq.{take-all, drop-cons, drop-drop}
 use Rattle.lists.specs.Lists.{overlayAt}
-use Rattle.lists.proofs.Lists.{take-overlayAt, overlay-whole}
 use Rattle.lists.proofs.Parts.{part-length}
-use Rattle.lists.proofs.Rules.{and-left}
 use Rattle.bitmap.specs.Header.{headerLength, fileLength}
 use Rattle.bitmap.specs.Palettes.{paletteOf, blackAndWhite}
 use Rattle.bitmap.proofs.Check.{rows-small}
 use Rattle.bitmap_prefix.specs.Begins.{headerBegins}
-use Rattle.bitmap_prefix.proofs.Begins.{begins-header, begins-empty, header-same}
+use Rattle.bitmap_prefix.proofs.Begins.{begins-header, begins-empty}
 use Rattle.bitmap.specs.declared.Palette.{Palette}
-use Rattle.fill.specs.Fills.{fillWith, noneKept, emptyFill, rowsCome, keptCount}
+use Rattle.fill.specs.Fills.{fillWith, noneKept, rowsCome, keptCount}
 use Rattle.fill.specs.Facts.{partLength}
-use Rattle.fill.specs.Feeding.{keeping, emptied, withRow, completed, pieceFed, bytesFed, goesOn, fed, ended, feeding, finishing}
+use Rattle.fill.specs.Feeding.{keeping, emptied, withRow, completed, pieceFed, bytesFed}
 use Rattle.fill.specs.Conditions.{allZero, headerRule}
 use Rattle.fill.specs.declared.Fill.{Fill}
 use Rattle.fill.proofs.Pieces.{after, bytes-piece, bytes-rest}
@@ -183,71 +181,6 @@ module _ (h s came all i n before : ℕ) (whole : came + all ≤ fileLength h s)
 
       pub index-fits : Fits w64 (i + n + r)
       index-fits = omega (arith, rows-small h s high wide)
-
--- ---- whether a chunk goes on
-
--- the first bytes of a header that is kept, and of a chunk, as far as there is room
-pub header-goes : (b h s : ℕ) (kept chunk : List ℕ) (came n : ℕ) (out : List ℕ) → headerLength ≡ length kept → came < headerLength
-    → n ≡ min (length chunk) (headerLength - came) → out ≡ overlayAt came (take n chunk) kept
-    → headerBegins b h s (take (came + n) out) ≡ headerBegins b h s (take came kept ++ chunk)
-header-goes b h s kept chunk came n out is l e f =
-    let short : length (take n chunk) ≡ n = length-take-le n chunk (omega arith) in
-    let front : take (came + n) out ≡ take came kept ++ take n chunk =
-    rw f (take-overlayAt came kept (take n chunk) (came + n) (omega arith) (omega arith)) in
-    elim (decLe (length chunk) n) [
-      | yes q ↦ rw (front, take-all n chunk q)
-      | no q ↦
-          let long : headerLength ≤ length (take came kept ++ take n chunk) =
-          simp length-append (omega (arith, length-take-le came kept (omega arith))) in
-          let whole : take came kept ++ chunk ≡ (take came kept ++ take n chunk) ++ drop n chunk =
-          ap (λ (t : List ℕ). take came kept ++ t) (sym (take-append-drop n chunk))
-          ∙ sym (append-assoc (take came kept) (take n chunk) (drop n chunk)) in
-          rw (front, whole) (sym (header-same (take came kept ++ take n chunk) (drop n chunk) long b h s))
-    ]
-
-module _ (b h s : ℕ) (fill : Fill) (chunk : List ℕ) where
-  pub goes-far : fileLength h s < fill .came + length chunk → false ≡ goesOn b h s fill chunk
-  unfolding goesOn
-  goes-far l = rw (lt-leb (fill .came + length chunk) (fileLength h s) l)
-
-  module _ (fits : fill .came + length chunk ≤ fileLength h s) where
-    pub goes-rows : headerLength ≤ fill .came → true ≡ goesOn b h s fill chunk
-    unfolding goesOn
-    goes-rows l = rw (le-leb (fill .came + length chunk) (fileLength h s) fits, le-leb headerLength (fill .came) l)
-
-    pub goes-header : fill .came < headerLength → headerBegins b h s (take (fill .came) (fill .kept) ++ chunk) ≡ goesOn b h s fill chunk
-    unfolding goesOn
-    goes-header l = rw (le-leb (fill .came + length chunk) (fileLength h s) fits, lt-leb headerLength (fill .came) l)
-
-  pub goes-fits : goesOn b h s fill chunk ≡ true → fill .came + length chunk ≤ fileLength h s
-  unfolding goesOn
-  goes-fits e = leb-true (fill .came + length chunk) (fileLength h s) (and-left (leb (fill .came + length chunk) (fileLength h s)) _ e)
-
--- ---- the calls
-
-pub white-left : (b h number : ℕ) (raw after : List ℕ) (fill : Fill) → length raw ≡ h * b → after ≡ overlayAt 0 (replicate (h * b) 0xFF) raw
-    → fill ≡ emptyFill → (fed number fill, after) ≡ ended b h number
-white-left b h number raw after fill e p q =
-    rw (p, q, overlay-whole (replicate (h * b) 0xFF) raw (omega (arith, length-replicate {A = ℕ} (h * b) 0xFF)))
-
-module _ (b h s : ℕ) (fill : Fill) (chunk raw : List ℕ) where
-  pub feed-refused : goesOn b h s fill chunk ≡ false → ended b h 4 ≡ feeding b h s fill chunk raw
-  unfolding feeding
-  feed-refused e = rw e
-
-  pub feed-taken : (next : Fill) (after : List ℕ) → goesOn b h s fill chunk ≡ true → (next, after) ≡ bytesFed b h s (fill, raw) chunk
-      → (fed 0 next, after) ≡ feeding b h s fill chunk raw
-  unfolding feeding
-  feed-taken next after e f = rw (e, ← f)
-
-  module _ (total : ℕ) (is : total ≡ fileLength h s) where
-    pub finish-refused : (fill .came ≡ total → ⊥) → ended b h 4 ≡ finishing b h s fill raw
-    unfolding finishing
-    finish-refused n = rw (← is, ne-eqb (fill .came) total n)
-
-    pub finish-taken : (next : Fill) → next ≡ emptyFill → fill .came ≡ total → (fed 0 next, raw) ≡ finishing b h s fill raw
-    unfolding finishing
-    finish-taken next p e = rw (← is, eq-eqb (fill .came) total e, p)
 
 -- ---- the conditions
 

@@ -10,7 +10,7 @@ use Rattle.lists.specs.Lists.{overlay}
 use Rattle.picture.specs.Slots.{pictureOf, rawOf}
 use Rattle.bitmap.specs.Header.{headerLength}
 use Rattle.bitmap.specs.Palettes.{paletteOf}
-use Rattle.bitmap.specs.Bitmap.{readPicture}
+use Rattle.bitmap_codec.specs.Codec.{readPicture}
 use Rattle.bitmap.specs.declared.Palette.{Palette}
 use Rattle.bitmap.specs.declared.Palette.the-variants.{Neither}
 use Rattle.fill.specs.declared.Fill.{Fill}

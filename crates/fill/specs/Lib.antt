@@ -1,4 +1,4 @@
--- Bitmap files that come in chunks: fills, what each byte does, the calls, and the conditions that a fill keeps.
+-- Bitmap files that come in chunks: fills, what each byte does, and the conditions that a fill keeps.
 pub mod Fills
 pub mod Feeding
 pub mod Conditions

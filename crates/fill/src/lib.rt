@@ -1,17 +1,12 @@
-// Bitmap files that come in chunks: what is kept of one, and what a chunk does to it and to the slot that it fills. A picture has h rows
+// Bitmap files that come in chunks: what is kept of one, and what its bytes do to it and to the slot that it fills. A picture has h rows
 // of b bytes; in a file they are s bytes apart.
 ghost use mathlib.Core.Path.{_≡_};
 ghost use Prim.Native.Nat.{ℕ, _+_, _*_, _<_, _≤_, min};
-ghost use mathlib.Core.Bool.{not, _||_};
-ghost use mathlib.Core.List.{_++_};
-ghost use lib.Dec.{eqb};
-ghost use lib.ListN.{length, take, drop};
+ghost use lib.ListN.{length, take};
 ghost use Rattle.bitmap.specs.Header.{headerLength, fileLength};
-ghost use Rattle.bitmap_prefix.specs.Begins.{headerBegins};
 ghost use Rattle.fill.specs.Fills.{fillWith, noneKept, begunFill, emptyFill, rowsCome, keptCount};
-ghost use Rattle.fill.specs.Feeding.{keeping, completed, pieceFed, bytesFed, goesOn, ended, feeding, finishing, cancelling};
+ghost use Rattle.fill.specs.Feeding.{keeping, completed, pieceFed, bytesFed};
 ghost use Rattle.fill.specs.Facts.{partLength};
-ghost use Rattle.fill.specs.Conditions.{allZero, headerRule, fillValid};
 use bitmap::Palette;
 
 // A bitmap file on its way into a slot: the slot (0: none is being filled), how many bytes came, the palette once the header has come
@@ -21,12 +16,6 @@ pub struct Fill {
     pub came: usize,
     pub palette: Palette,
     pub kept: [u8; 62],
-}
-
-// What a call gives back: its number, and the fill for the next call.
-pub struct Fed {
-    pub number: u8,
-    pub fill: Fill,
 }
 
 // ---- fills
@@ -54,7 +43,7 @@ pub fn empty() -> Fill
 // ---- the header or row that is not whole yet
 
 // How many bytes of it have come.
-fn kept_count(s: usize, came: usize) -> usize
+pub fn kept_count(s: usize, came: usize) -> usize
     requires { ⌜ (0 < s) × (s ≤ 36) ⌝ }
     ensures { λ r. ⌜ (r ≡ keptCount s came) × (r < partLength s came) ⌝ }
 {
@@ -112,7 +101,7 @@ fn complete(b: usize, h: usize, s: usize, fill: Fill, raw: &mut [u8]) -> Fill
         };
     }
     let known = fill.palette;
-    bitmap::put_dots(b, h, known, raw, h - (came - 62) / s, &whole, 0);
+    bitmap_codec::put_dots(b, h, known, raw, h - (came - 62) / s, &whole, 0);
     Fill {
         slot: fill.slot,
         came,
@@ -138,7 +127,8 @@ fn take_piece(b: usize, h: usize, s: usize, fill: Fill, piece: &[u8], raw: &mut 
 
 // ---- a chunk
 
-fn least(m: usize, n: usize) -> usize
+// The lesser of two numbers.
+pub fn least(m: usize, n: usize) -> usize
     ensures { λ r. ⌜ r ≡ min m n ⌝ }
 {
     if m < n {
@@ -184,14 +174,14 @@ fn take_rows(
     let top = h - (came - 62) / s;
     let mut k: usize = 0;
     while k < n {
-        bitmap::put_dots(b, h, palette, raw, top - 1 - k, rows, k * s);
+        bitmap_codec::put_dots(b, h, palette, raw, top - 1 - k, rows, k * s);
         k += 1;
     }
     n * s
 }
 
 // Takes in bytes of a file: each time all that the header or row lacks, or all that are left, and then the whole rows after them.
-fn take_bytes(b: usize, h: usize, s: usize, fill: Fill, chunk: &[u8], raw: &mut [u8]) -> Fill
+pub fn take_bytes(b: usize, h: usize, s: usize, fill: Fill, chunk: &[u8], raw: &mut [u8]) -> Fill
     requires { ⌜ (0 < b) × (b ≤ 33) × (b ≤ s) × (s ≤ 36) × (h ≤ 176) × (length (now raw) ≡ h * b)
         × (fill .came + length (now chunk) ≤ fileLength h s) ⌝ }
     ensures { λ r. ⌜ (r, now (raw .exit)) ≡ bytesFed b h s (fill, now (raw .entry)) (now (chunk .entry)) ⌝ }
@@ -209,154 +199,4 @@ fn take_bytes(b: usize, h: usize, s: usize, fill: Fill, chunk: &[u8], raw: &mut 
         i = end + rows;
     }
     here
-}
-
-// Whether the bytes kept of a header and a chunk begin a good header.
-fn header_goes_on(b: usize, h: usize, s: usize, kept: [u8; 62], came: usize, chunk: &[u8]) -> bool
-    requires { ⌜ (b ≤ 33) × (h ≤ 176) × (s ≤ 36) × (came < 62) ⌝ }
-    ensures { λ r. ⌜ r ≡ headerBegins b h s (take came kept ++ now (chunk .entry)) ⌝ }
-{
-    let mut header = kept;
-    let n = least(chunk.len(), 62 - came);
-    lists::put_at(&mut header, came, &chunk[..n]);
-    let end = came + n;
-    bitmap_prefix::header_begins(b, h, s, &header[..end])
-}
-
-// Whether the bytes so far still begin a good file with this chunk.
-fn goes_on(b: usize, h: usize, s: usize, fill: Fill, chunk: &[u8]) -> bool
-    requires { ⌜ (b ≤ 33) × (h ≤ 176) × (s ≤ 36) ⌝ }
-    ensures { λ r. ⌜ r ≡ goesOn b h s fill (now (chunk .entry)) ⌝ }
-{
-    let came = fill.came;
-    let total = bitmap::file_length(h, s);
-    if total < came {
-        return false;
-    }
-    if total - came < chunk.len() {
-        return false;
-    }
-    if 62 <= came {
-        return true;
-    }
-    let kept = fill.kept;
-    header_goes_on(b, h, s, kept, came, chunk)
-}
-
-// ---- the calls, on the bytes of the slot that is filled
-
-// Ends a fill: the slot is all white.
-fn end_fill(b: usize, h: usize, number: u8, raw: &mut [u8]) -> Fed
-    requires { ⌜ (b ≤ 33) × (h ≤ 176) × (length (now raw) ≡ h * b) ⌝ }
-    ensures { λ r. ⌜ (r, now (raw .exit)) ≡ ended b h number ⌝ }
-{
-    lists::fill_at(raw, 0, h * b, 0xFF);
-    let fill = empty();
-    Fed { number, fill }
-}
-
-// Takes a chunk in: 4 where no good file can follow any more.
-pub fn feed(b: usize, h: usize, s: usize, fill: Fill, chunk: &[u8], raw: &mut [u8]) -> Fed
-    requires { ⌜ (0 < b) × (b ≤ 33) × (b ≤ s) × (s ≤ 36) × (h ≤ 176) × (length (now raw) ≡ h * b) ⌝ }
-    ensures { λ r. ⌜ (r, now (raw .exit)) ≡ feeding b h s fill (now (chunk .entry)) (now (raw .entry)) ⌝ }
-{
-    if !goes_on(b, h, s, fill, chunk) {
-        return end_fill(b, h, 4, raw);
-    }
-    let fill = take_bytes(b, h, s, fill, chunk, raw);
-    Fed { number: 0, fill }
-}
-
-// Ends a file: 4 where it comes too early.
-pub fn finish(b: usize, h: usize, s: usize, fill: Fill, raw: &mut [u8]) -> Fed
-    requires { ⌜ (b ≤ 33) × (s ≤ 36) × (h ≤ 176) × (length (now raw) ≡ h * b) ⌝ }
-    ensures { λ r. ⌜ (r, now (raw .exit)) ≡ finishing b h s fill (now (raw .entry)) ⌝ }
-{
-    if fill.came != bitmap::file_length(h, s) {
-        return end_fill(b, h, 4, raw);
-    }
-    let fill = empty();
-    Fed { number: 0, fill }
-}
-
-// Gives a fill up.
-pub fn cancel(b: usize, h: usize, raw: &mut [u8]) -> Fed
-    requires { ⌜ (b ≤ 33) × (h ≤ 176) × (length (now raw) ≡ h * b) ⌝ }
-    ensures { λ r. ⌜ (r, now (raw .exit)) ≡ cancelling b h ⌝ }
-{
-    end_fill(b, h, 0, raw)
-}
-
-// ---- the conditions
-
-// Whether the bytes from an index on are all 0.
-fn zero_from(bytes: &[u8], from: usize) -> bool
-    requires { ⌜ from ≤ length (now bytes) ⌝ }
-    ensures { λ r. ⌜ r ≡ allZero (drop from (now (bytes .entry))) ⌝ }
-{
-    let mut any: u8 = 0;
-    let mut i = from;
-    while i < bytes.len() {
-        any = any | bytes[i];
-        i += 1;
-    }
-    any == 0
-}
-
-// Whether the first `came` bytes that are kept begin a good header.
-fn kept_begins(b: usize, h: usize, s: usize, kept: &[u8], came: usize) -> bool
-    requires { ⌜ (b ≤ 33) × (h ≤ 176) × (s ≤ 36) × (came ≤ length (now kept)) ⌝ }
-    ensures { λ r. ⌜ r ≡ headerBegins b h s (take came (now (kept .entry))) ⌝ }
-{
-    bitmap_prefix::header_begins(b, h, s, &kept[..came])
-}
-
-// Whether the header, or what has come of it, and the palette are as they should be. Where nothing has come, nothing is looked at.
-fn header_valid(b: usize, h: usize, s: usize, fill: Fill) -> bool
-    requires { ⌜ (b ≤ 33) × (h ≤ 176) × (s ≤ 36) ⌝ }
-    ensures { λ r. ⌜ r ≡ headerRule b h s fill ⌝ }
-{
-    let came = fill.came;
-    let palette = fill.palette;
-    let known = bitmap::black_and_white(palette);
-    if 62 <= came {
-        return known;
-    }
-    if known {
-        return false;
-    }
-    if came == 0 {
-        return true;
-    }
-    let kept = fill.kept;
-    kept_begins(b, h, s, &kept, came)
-}
-
-// Whether no byte has come where there is no slot.
-fn slot_valid(slot: u32, came: usize) -> bool
-    ensures { λ r. ⌜ r ≡ (not (eqb slot 0) || eqb came 0) ⌝ }
-{
-    if slot != 0 {
-        return true;
-    }
-    came == 0
-}
-
-// Whether a fill is one that chunks can leave.
-pub fn valid(b: usize, h: usize, s: usize, fill: Fill) -> bool
-    requires { ⌜ (0 < b) × (b ≤ 33) × (b ≤ s) × (s ≤ 36) × (h ≤ 176) ⌝ }
-    ensures { λ r. ⌜ r ≡ fillValid b h s fill ⌝ }
-{
-    let came = fill.came;
-    let kept = fill.kept;
-    if !slot_valid(fill.slot, came) {
-        return false;
-    }
-    if bitmap::file_length(h, s) < came {
-        return false;
-    }
-    if !zero_from(&kept, kept_count(s, came)) {
-        return false;
-    }
-    header_valid(b, h, s, fill)
 }

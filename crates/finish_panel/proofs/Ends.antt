@@ -13,10 +13,10 @@ use Rattle.lists.proofs.Elements.{at-map}
 use Rattle.lists.proofs.Rules.{holds, every-append}
 use Rattle.finish_panel.specs.declared.Answer.{Answer}
 use Rattle.finish_panel.specs.declared.Answer.the-variants.{Refused, Write, Delay, BusyHigh, Done}
-use Rattle.finish_panel.specs.Order.{Thing, done, otpByte, otpBytes, raise, oneRepeat, repeats, stage, thingsOf}
-use Rattle.finish_panel.specs.Update.{answerOf, answerValue, thingAt, roomForAll}
-use Rattle.finish_panel.specs.Facts.{beforeStart, afterStart, stagesFrom, fromStart}
-use Rattle.finish_panel.proofs.Order.{stage-length, in-order}
+use Rattle.finish_order.specs.Order.{Thing, done, otpByte, otpBytes, raise, oneRepeat, repeats, stage, thingsOf, thingAt}
+use Rattle.finish_panel.specs.Update.{answerOf, answerValue, roomForAll}
+use Rattle.finish_order.specs.Facts.{beforeStart, afterStart, stagesFrom, fromStart}
+use Rattle.finish_order.proofs.Order.{stage-length, in-order}
 
 -- ---- how many
 

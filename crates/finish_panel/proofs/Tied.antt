@@ -8,7 +8,8 @@ use denote.Ref.{now}
 use lib.IntN.{ℤ}
 use lib.ListN.{length}
 use Rattle.lists.proofs.Calls.{Call, AsksNothing}
-use Rattle.finish_panel.specs.Update.{normalGood, fastGood, normalThings, fastThings, Accepted, roomForAll, InOrder}
+use Rattle.finish_rules.specs.Rules.{normalGood, fastGood, Accepted}
+use Rattle.finish_panel.specs.Update.{normalThings, fastThings, roomForAll, InOrder}
 use Rattle.finish_panel.proofs.Whole.{normal-in-order, fast-in-order}
 use Rattle.finish_panel.proofs.normal_update.Kinds as normal-kinds
 use Rattle.finish_panel.proofs.normal_update.Reads as normal-reads

@@ -12,9 +12,11 @@ use Rattle.lists.specs.Lists.{overlay}
 use Rattle.lists.proofs.Rules.{by-cases}
 use Rattle.finish_panel.specs.declared.Answer.{Answer}
 use Rattle.finish_panel.specs.declared.Answer.the-variants.{Refused, Done}
-use Rattle.finish_panel.specs.Order.{Thing, write, delay, busyHigh, done, thingsOf}
-use Rattle.finish_panel.specs.Update.{bytesOf, answerOf, answerNumber, answerValue, putOut, normalGood, normalIndex, fastGood, fastIndex, refusals, thingAt, tooShort, giveOut, normalThings, fastThings, normalUpdate, fastUpdate, Accepted, roomForAll, InOrder}
-use Rattle.finish_panel.proofs.Update.{picture-size, none-refused, put, give}
+use Rattle.finish_order.specs.Order.{Thing, write, delay, busyHigh, done, thingsOf, thingAt}
+use Rattle.finish_rules.specs.Rules.{normalGood, normalIndex, fastGood, fastIndex, refusals, Accepted}
+use Rattle.finish_panel.specs.Update.{bytesOf, answerOf, answerNumber, answerValue, putOut, tooShort, giveOut, normalThings, fastThings, normalUpdate, fastUpdate, roomForAll, InOrder}
+use Rattle.finish_rules.proofs.Rules.{picture-size, none-refused}
+use Rattle.finish_panel.proofs.Update.{put, give}
 use Rattle.finish_panel.proofs.Ends.{not-done, small}
 
 -- ---- one thing

@@ -8,8 +8,8 @@ use Prim.Native.Nat.{ℕ}
 use lib.IntN.{pos, negℤ}
 use lib.ListN.{length, replicate}
 use Rattle.lists.specs.Lists.{tabulate}
-use Rattle.finish_panel.specs.Order.{Thing, write, delay, busyHigh, stage, thingsOf}
-use Rattle.finish_panel.specs.Update.{normalIndex, fastIndex, stageGood, stagesGood}
+use Rattle.finish_order.specs.Order.{Thing, write, delay, busyHigh, stage, thingsOf}
+use Rattle.finish_rules.specs.Rules.{normalIndex, fastIndex, stageGood, stagesGood}
 
 pub otp : List ℕ
 otp =

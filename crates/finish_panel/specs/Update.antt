@@ -1,18 +1,17 @@
 -- Change request 2026-04: what the two calls answer, and the output's bytes after them, on any input.
 -- Assumes nothing.
 use mathlib.Core.Path.{_≡_}
-use mathlib.Core.Bool.{Bool, true, not, _&&_, _||_}
-use mathlib.Core.List.{List, [], _∷_, _++_, map}
-use Prim.Native.Nat.{ℕ, _+_, _≤_, _<_, max}
-use lib.Dec.{eqb, ltb, leb}
-use lib.IntN.{ℤ, pos, negℤ, natAbs, _+ℤ_}
-use lib.ListN.{length, getD, take, replicate}
-use lib.Signed.{leZ}
+use mathlib.Core.List.{List, [], _∷_, _++_}
+use Prim.Native.Nat.{ℕ, _+_, _≤_, _<_}
+use lib.Dec.{ltb}
+use lib.IntN.{ℤ}
+use lib.ListN.{length, take, replicate}
 use Rattle.lists.specs.Lists.{overlay}
-use Rattle.lists.specs.Rules.{every, Case, case, firstOf}
+use Rattle.lists.specs.Rules.{Case, case, firstOf}
+use Rattle.finish_order.specs.Order.{Thing, write, delay, busyHigh, done, thingsOf, thingAt}
+use Rattle.finish_rules.specs.Rules.{normalGood, normalIndex, fastGood, fastIndex, refusals}
 use Rattle.finish_panel.specs.declared.Answer.{Answer}
 use Rattle.finish_panel.specs.declared.Answer.the-variants.{Refused, Write, Delay, BusyHigh, Done}
-use Rattle.finish_panel.specs.Order.{Thing, write, delay, busyHigh, done, otpByte, thingsOf}
 
 -- ---- the answer
 
@@ -54,59 +53,7 @@ answerValue (Delay ms) = ms
 answerValue BusyHigh = 0
 answerValue Done = 0
 
--- ---- the temperature
-
--- the temperature is one of a range
-abbrev pub between : (low high temperature : ℤ) → Bool
-between low high temperature = leZ low temperature && leZ temperature high
-
--- normal mode takes -15 to 60 degrees; its index is 0x28 + t, raised to at least 0x25
-abbrev pub normalGood : (temperature : ℤ) → Bool
-normalGood = between (negℤ (pos 15)) (pos 60)
-
-abbrev pub normalIndex : (temperature : ℤ) → ℕ
-normalIndex temperature = max 0x25 (natAbs (pos 0x28 +ℤ temperature))
-
--- fast mode takes 0 to 50 degrees; its index is 0xA8 + t
-abbrev pub fastGood : (temperature : ℤ) → Bool
-fastGood = between (pos 0) (pos 50)
-
-abbrev pub fastIndex : (temperature : ℤ) → ℕ
-fastIndex temperature = natAbs (pos 0xA8 +ℤ temperature)
-
--- ---- the refusals
-
-abbrev pub otpLength : ℕ
-otpLength = 128
-
--- the REPEAT and the DELAY byte of the stage at `at` have bit 7 set: they are 0x80 or more
-unfoldable pub stageGood : (otp : List ℕ) (at : ℕ) → Bool
-stageGood otp at = leb 0x80 (otpByte otp at) && leb 0x80 (otpByte otp (at + 7))
-
-abbrev pub stageTests : (otp : List ℕ) → List Bool
-stageTests otp = map (stageGood otp) (0x28 ∷ 0x30 ∷ 0x38 ∷ 0x40 ∷ [])
-
-unfoldable pub stagesGood : (otp : List ℕ) → Bool
-stagesGood otp = every (stageTests otp)
-
--- the bytes of a 5.81" or of a 7.41" picture
-unfoldable pub isPicture : (n : ℕ) → Bool
-isPicture n = eqb n 23040 || eqb n 48000
-
--- what is refused at every count, in this order
-abbrev pub refusals : (otp : List ℕ) (temperatureGood : Bool) (newLength shownLength : ℕ) → List Case
-refusals otp temperatureGood newLength shownLength =
-    case (not (eqb (length otp) otpLength)) 18  -- OTP length
-    ∷ case (not (stagesGood otp)) 19  -- a REPEAT or DELAY byte with bit 7 clear
-    ∷ case (not temperatureGood) 20  -- temperature
-    ∷ case (not (isPicture newLength && eqb newLength shownLength)) 21  -- a picture of neither size, or two of different size
-    ∷ []
-
 -- ---- the calls
-
--- the thing after `given` others, and `done` past the last
-abbrev pub thingAt : (things : List Thing) (given : ℕ) → Thing
-thingAt things given = getD things given done
 
 -- what is refused where a thing is given out: an output that is shorter than the write
 abbrev pub tooShort : (thing : Thing) (out : List ℕ) → List Case
@@ -140,14 +87,6 @@ fastUpdate otp temperature new shown given out =
     out
 
 -- ---- a whole update
-
--- what the calls of a whole update have in common: none of these is refused with 18, 19, 20 or 21
-pub record Accepted (otp : List ℕ) (temperatureGood : Bool) (newLength shownLength : ℕ) : Type 0 where
-  pub otp-whole : length otp ≡ otpLength
-  pub stages-good : stagesGood otp ≡ true
-  pub in-range : temperatureGood ≡ true
-  pub picture : isPicture newLength ≡ true
-  pub same-size : newLength ≡ shownLength
 
 -- a length that has room for every write
 abbrev pub roomForAll : ℕ

@@ -9,8 +9,8 @@ use lib.ListN.{length, take, drop, length-append, length-take, length-drop}
 use lib.Seq.{take-all, take-length, take-append-add, drop-append-add}
 use Rattle.lists.specs.Lists.{overlayAt}
 use Rattle.lists.proofs.Parts.{part-next}
+use Rattle.hall_commands.specs.Commands.{dataOf, commandCount}
 use Rattle.hall_display.specs.Panels.{header}
-use Rattle.hall_display.specs.Commands.{dataOf, commandCount}
 use Rattle.hall_display.specs.Upload.{uploadBytes}
 use Rattle.hall_display.proofs.Panels.{header-length}
 

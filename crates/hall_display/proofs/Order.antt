@@ -1,48 +1,25 @@
--- A whole upload: the commands that are given hold header and image, and reading them in order brings them back.
+-- A whole upload: its commands hold header and image, and reading them brings these back.
 -- Assumes nothing.
-use mathlib.Core.Path.{_≡_, refl, sym, ap, ap₂, _∙_}
+use mathlib.Core.Path.{_≡_, refl, sym, ap, _∙_}
 use mathlib.Core.Bool.{true}
-use mathlib.Core.List.{List, _++_}
+use mathlib.Core.List.{List}
 use Prim.Native.Nat.{ℕ, zero, suc, _+_, _*_, _≤_, _<_}
-use native.Mathlib.Nat.{add-assoc, zero-add}
-use native.Mathlib.Decide.{ℕ-discrete}
+use native.Mathlib.Nat.{zero-add}
 use native.Mathlib.Omega.{arith}
-use borrow.Author.Tests.{eq-eqb, ne-eqb, le-leb, le-ltb}
-use lib.ListN.{length, take, length-append}
+use borrow.Author.Tests.{eq-eqb, ne-eqb, le-ltb}
+use lib.ListN.{length, take}
 use lib.Seq.{take-all, take-add, take-at}
-use Rattle.lists.specs.Lists.{overlay, overlayAt}
-use Rattle.lists.proofs.Lists.{overlayAt-none, length-overlayAt, overlayAt-next}
-use Rattle.lists.proofs.Rules.{none, keep, all-kept}
+use Rattle.lists.specs.Lists.{overlay}
+use Rattle.hall_commands.specs.Commands.{dataOf, command, dataIn, commandCount}
+use Rattle.hall_commands.specs.Reading.{readerAt, reply}
+use Rattle.hall_commands.specs.Order.{joined, readInOrder}
+use Rattle.hall_commands.proofs.Order.{joined-cong, read-cong, read-joined}
 use Rattle.hall_display.specs.Panels.{isDisplay, imageBytes}
-use Rattle.hall_display.specs.Commands.{dataOf, command, dataIn, commandCount}
 use Rattle.hall_display.specs.Upload.{putOut, uploadBytes, giving, uploading}
-use Rattle.hall_display.specs.Reading.{readerAt, reply, isUpload, reading}
-use Rattle.hall_display.specs.Order.{joined, readNext, readInOrder, imageCommands, Uploaded}
+use Rattle.hall_display.specs.Order.{imageCommands, Uploaded}
 use Rattle.hall_display.specs.declared.Answer.{Answer}
 use Rattle.hall_display.specs.declared.Answer.the-variants.{Command, NoMore}
-use Rattle.hall_display.specs.declared.Reader.{Reader}
-use Rattle.hall_display.specs.declared.Reply.{Reply}
 use Rattle.hall_display.proofs.Commands.{upload-length, data-full, data-some, data-none, data-most}
-
--- ---- parts in order
-
-pub joined-cong : (n : ℕ) (f g : ℕ → List ℕ) → ((k : ℕ) → k < n → f k ≡ g k) → joined n f ≡ joined n g
-joined-cong zero f g e = refl
-joined-cong (suc n) f g e = ap₂ _++_ (joined-cong n f g (λ k h. e k (omega arith))) (e n (omega arith))
-
-pub read-cong : (n : ℕ) (f g : ℕ → List ℕ) (reader : Reader) (memory : List ℕ) → ((k : ℕ) → k < n → f k ≡ g k)
-    → readInOrder n f reader memory ≡ readInOrder n g reader memory
-read-cong zero f g reader memory e = refl
-read-cong (suc n) f g reader memory e =
-    ap₂ readNext (read-cong n f g reader memory (λ k h. e k (omega arith))) (e n (omega arith))
-
--- a refusal is not passed
-pub not-refused : (before : Reply × List ℕ) (command : List ℕ) → readNext before command .0 .number ≡ 0 → before .0 .number ≡ 0
-not-refused before command e =
-    elim (ℕ-discrete (before .0 .number) 0) [
-      | yes z ↦ z
-      | no d ↦ rw (ne-eqb (before .0 .number) 0 d) at e
-    ]
 
 -- ---- bytes cut into data, over any bytes
 
@@ -57,38 +34,6 @@ module _ (bytes : List ℕ) where
   -- all of them
   pub data-joined : joined (commandCount (length bytes)) (λ k. dataOf k bytes) ≡ bytes
   data-joined = data-front (commandCount (length bytes)) ∙ take-all (251 * commandCount (length bytes)) bytes (omega arith)
-
--- ---- commands read in order, over any parts of 1 to 251 bytes
-
-module _ (slot : ℕ) (small : slot ≤ 255) where
-  upload-good : (body : List ℕ) → 1 ≤ length body → length body ≤ 251 → isUpload slot (command slot body) ≡ true
-  unfolding isUpload
-  upload-good body l h =
-      all-kept (keep refl (keep refl (keep (eq-eqb slot slot refl) (keep (le-leb 1 (length body) l)
-      (keep (le-leb (length body) 251 h) (keep (eq-eqb (length (command slot body)) (4 + length body) (omega arith)) none))))))
-
-  read-part : (at : ℕ) (body memory : List ℕ) → 1 ≤ length body → length body ≤ 251 → at + length body ≤ length memory
-      → reading (readerAt slot at) (command slot body) memory ≡ (reply 0 (readerAt slot (at + length body)), overlayAt at body memory)
-  unfolding reading
-  read-part at body memory l h room =
-      rw (le-ltb 255 slot small, upload-good body l h, le-ltb (length memory) (at + length body) room)
-
-  pub read-joined : (n : ℕ) (part : ℕ → List ℕ) (at : ℕ) (memory : List ℕ)
-      → ((k : ℕ) → k < n → 1 ≤ length (part k)) → ((k : ℕ) → k < n → length (part k) ≤ 251)
-      → at + length (joined n part) ≤ length memory
-      → readInOrder n (λ k. command slot (part k)) (readerAt slot at) memory
-      ≡ (reply 0 (readerAt slot (at + length (joined n part))), overlayAt at (joined n part) memory)
-  read-joined zero part at memory some most room =
-      let e : at + 0 ≡ at = omega arith in
-      rw (e, ← overlayAt-none at memory)
-  read-joined (suc n) part at memory some most room =
-      let front : List ℕ = joined n part in
-      let l : length (front ++ part n) ≡ length front + length (part n) = length-append front (part n) in
-      let fits : at + length front ≤ length memory = omega (arith, l) in
-      let before : length (overlayAt at front memory) ≡ length memory = length-overlayAt at memory front fits in
-      rw (read-joined n part at memory (λ k h. some k (omega arith)) (λ k h. most k (omega arith)) fits)
-      (read-part (at + length front) (part n) (overlayAt at front memory) (some n (omega arith)) (most n (omega arith)) (omega (arith, l))
-      ∙ rw (overlayAt-next at memory front (part n) (at + length front) refl fits, l, add-assoc))
 
 -- ---- the upload of an image
 

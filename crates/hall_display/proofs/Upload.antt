@@ -11,8 +11,8 @@ use Rattle.lists.specs.Lists.{overlay, overlayAt}
 use Rattle.lists.specs.Rules.{firstOf}
 use Rattle.lists.proofs.Rules.{None, past, taken, some-number, none-of}
 use Rattle.lists.proofs.Parts.{overlay-two}
+use Rattle.hall_commands.specs.Commands.{dataOf, command}
 use Rattle.hall_display.specs.Panels.{isDisplay, header}
-use Rattle.hall_display.specs.Commands.{dataOf, command}
 use Rattle.hall_display.specs.Upload.{makeHeader, uploadCases, uploadBytes, giving, uploading}
 use Rattle.hall_display.specs.declared.Answer.the-variants.{Refused, Command, NoMore}
 use Rattle.hall_display.proofs.Commands.{data-length}

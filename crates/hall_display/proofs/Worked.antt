@@ -2,9 +2,8 @@
 -- Assumes nothing.
 use mathlib.Core.Path.{_≡_, refl}
 use mathlib.Core.List.{[], _∷_}
+use Rattle.hall_commands.specs.Commands.{commandCount}
 use Rattle.hall_display.specs.Panels.{imageBytes, header}
-use Rattle.hall_display.specs.Commands.{commandCount}
-use Rattle.hall_display.specs.Checksum.{initial, addByte, swapBytes, mixUp, mixDown, mixAcross, crc16Add, checksumFrom}
 
 pub record Worked : Type 0 where
   -- the headers of 6.1; the last has depth 02, where the document's line has a slip
@@ -19,11 +18,9 @@ pub record Worked : Type 0 where
   pub image-31-2 : imageBytes 0x3F 2 ≡ 921600
   -- 240,016 bytes make 957 commands
   pub commands : commandCount 240016 ≡ 957
-  -- "123456789", the usual test of such a checksum: the same polynomial and initial value as CRC-A of ISO 14443-3
-  pub digits : checksumFrom initial (0x31 ∷ 0x32 ∷ 0x33 ∷ 0x34 ∷ 0x35 ∷ 0x36 ∷ 0x37 ∷ 0x38 ∷ 0x39 ∷ []) ≡ 0xBF05
 
 pub worked : Worked
-unfolding header crc16Add addByte swapBytes mixUp mixDown mixAcross
+unfolding header
 worked =
     record {
       header-13-1 = refl;
@@ -35,5 +32,4 @@ worked =
       image-31-1 = refl;
       image-31-2 = refl;
       commands = refl;
-      digits = refl;
     }

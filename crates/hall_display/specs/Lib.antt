@@ -1,7 +1,4 @@
--- The big hall display of document 003: the two panels, the upload commands, the reader, and the checksum.
+-- The big hall display of document 003: the two panels, and the upload of an image.
 pub mod Panels
-pub mod Commands
 pub mod Upload
-pub mod Reading
 pub mod Order
-pub mod Checksum

@@ -7,8 +7,8 @@ use lib.Dec.{eqb, ltb}
 use lib.ListN.{length, take, replicate}
 use Rattle.lists.specs.Lists.{overlay}
 use Rattle.lists.specs.Rules.{Case, case, firstOf}
+use Rattle.hall_commands.specs.Commands.{dataOf, command}
 use Rattle.hall_display.specs.Panels.{isDisplay, imageBytes, header}
-use Rattle.hall_display.specs.Commands.{dataOf, command}
 use Rattle.hall_display.specs.declared.Header.{Header}
 use Rattle.hall_display.specs.declared.Answer.{Answer}
 use Rattle.hall_display.specs.declared.Answer.the-variants.{Refused, Command, NoMore}

@@ -13,7 +13,7 @@ use Rattle.lists.proofs.Rules.{below-fails, given, taken, here, past, First, No
 use Rattle.panel.specs.Panels.{isPanel, widthOf, rowsOf, rowBytesOf}
 use Rattle.panel.proofs.Panels.{each-panel}
 use Rattle.counting.proofs.Below.{all-more}
-use Rattle.layout.specs.Boxes.{boxCount, listGood}
+use Rattle.layout_rules.specs.Boxes.{boxCount, listGood}
 use Rattle.layout.specs.Places.{placeOf, hasDots, levelsGood, sizeGood, sizesGood}
 use Rattle.layout.specs.Answer.{isLeaf, leavesBelow, leavesOf, nowhere, padded, answerOf, layoutOf}
 use Rattle.layout.specs.Facts.{withLeaf, placedOn}

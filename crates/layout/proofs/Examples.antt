@@ -3,7 +3,7 @@
 use Prim.Native.Nat.{ℕ}
 use mathlib.Core.Path.{_≡_, refl}
 use mathlib.Core.List.{List, [], _∷_}
-use Rattle.layout.specs.Boxes.{childGood, boxGood, childOnce, listGood}
+use Rattle.layout_rules.specs.Boxes.{childGood, boxGood, childOnce, listGood}
 use Rattle.layout.specs.Places.{parentOf, orderIn, levelsAbove, levelsGood, partOf, placeOf, sizeGood, sizesGood}
 use Rattle.layout.specs.Answer.{answerOf, layoutOf}
 use Rattle.layout.specs.declared.Rect.{Rect}

@@ -12,13 +12,13 @@ use lib.ListN.{length, length-set}
 use lib.Seq.{getD-set-same, getD-set-other}
 use Rattle.lists.proofs.Rules.{below-all}
 use Rattle.counting.proofs.Below.{all-fails}
-use Rattle.layout.specs.Boxes.{boxCount, childCount, childOf, startOf, listGood}
+use Rattle.layout_rules.specs.Boxes.{boxCount, childCount, childOf, startOf, listGood}
 use Rattle.layout.specs.Places.{parentOf, orderIn, levelsAbove, levelGood, levelsGood, partOf, placeOf}
 use Rattle.layout.specs.Answer.{nowhere}
 use Rattle.layout.specs.Facts.{emptyChart, withPlace, tooDeep, Under, self, child, Told, Standing, Placed, AllPlaced}
 use Rattle.layout.specs.declared.Rect.{Rect}
 use Rattle.layout.specs.declared.Chart.{Chart}
-use Rattle.layout.proofs.Boxes.{good-framed}
+use Rattle.layout_rules.proofs.Boxes.{good-framed}
 use Rattle.layout.proofs.Places.{by-parent, levels-first, levels-up, parent-box, order-lt, order-child, child-later, child-box, child-parent, child-order, child-of, place-whole, place-part, part-inside}
 
 -- ---- levels

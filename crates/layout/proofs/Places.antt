@@ -9,10 +9,10 @@ use native.Mathlib.Nat.{eq-zero-or-pos}
 use native.Mathlib.Omega.{arith}
 use native.Mathlib.Numerals.{add-one}
 use borrow.Author.Tests.{lt-ltb, ltb-true, eq-eqb, eqb-true}
-use Rattle.layout.specs.Boxes.{boxCount, childCount, weightOf, childOf, startOf, isChild, timesIn, listGood}
+use Rattle.layout_rules.specs.Boxes.{boxCount, childCount, weightOf, childOf, startOf, isChild, timesIn, listGood}
 use Rattle.layout.specs.Places.{isParent, parentOf, parentStart, orderIn, levelsWithin, levelsAbove, weightsBelow, widthPart, heightPart, partOf, placeOf}
 use Rattle.layout.proofs.Division.{edge-le, edge-mono}
-use Rattle.layout.proofs.Boxes.{box-within, good-framed, good-few, good-weight, good-once, good-later, good-number}
+use Rattle.layout_rules.proofs.Boxes.{box-within, good-framed, good-few, good-weight, good-once, good-later, good-number}
 use lib.Dec.{eqb}
 use Rattle.counting.proofs.Below.{last-lt, last-true, sum-le, sum-some, sum-term, sum-once, bit-some, some-bit}
 use Rattle.layout.specs.declared.Rect.{Rect}

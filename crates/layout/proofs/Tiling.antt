@@ -13,7 +13,7 @@ use lib.Dec.{eqb}
 use lib.ListN.{length, getD, replicate, length-append, List·getD-append}
 use lib.Seq.{getD-append-seam, take-at}
 use Rattle.lists.proofs.Rules.{holds, keep, none, all-kept, None, past, by-cases}
-use Rattle.layout.specs.Boxes.{boxCount, childCount, childOf, startOf, weightOf, listGood}
+use Rattle.layout_rules.specs.Boxes.{boxCount, childCount, childOf, startOf, weightOf, listGood}
 use Rattle.layout.specs.Places.{parentOf, parentStart, orderIn, levelsAbove, weightsBelow, edgeOf, widthPart, heightPart, partOf, placeOf}
 use Rattle.layout.specs.Tiling.{coverRules, covers, timesCovered, Inside, LeavesTile, Tiled}
 use Rattle.layout.specs.declared.Rect.{Rect}
@@ -21,7 +21,7 @@ use Rattle.layout.specs.Answer.{isLeaf, leavesBelow, leavesOf, nowhere, 
 use Rattle.panel.specs.Panels.{widthOf, rowsOf}
 use Rattle.counting.specs.Below.{sumBelow}
 use Rattle.counting.proofs.Below.{sum-le, sum-one}
-use Rattle.layout.proofs.Boxes.{good-some}
+use Rattle.layout_rules.proofs.Boxes.{good-some}
 use Rattle.layout.proofs.Places.{parent-lt, levels-first, place-whole, place-inside, parent-box, order-lt, order-child, child-of, child-later, child-box, child-parent, child-order, place-part}
 use Rattle.layout.proofs.Tree.{Holding, leaf-some, leaf-one}
 use Rattle.layout.proofs.Division.{edge-first, edge-last, edge-mono, Between, part-some, part-whole, part-one}

@@ -7,7 +7,7 @@ use lib.Dec.{eqb}
 use lib.ListN.{length, replicate}
 use Rattle.lists.specs.Rules.{Case, case, firstOf}
 use Rattle.panel.specs.Panels.{isPanel, widthOf, rowsOf}
-use Rattle.layout.specs.Boxes.{boxCount, childCount, startOf, listGood}
+use Rattle.layout_rules.specs.Boxes.{boxCount, childCount, startOf, listGood}
 use Rattle.layout.specs.Places.{placeOf, levelsGood, sizesGood}
 use Rattle.layout.specs.declared.Rect.{Rect}
 use Rattle.layout.specs.declared.Leaves.{Leaves}

@@ -6,7 +6,7 @@ use mathlib.Core.Bool.{true, false, not}
 use mathlib.Core.List.{List, [], _∷_}
 use lib.ListN.{length, getD, set, replicate}
 use Rattle.lists.specs.Rules.{case, firstOf}
-use Rattle.layout.specs.Boxes.{boxCount, childCount, childOf, nextBox, startOf, listGood}
+use Rattle.layout_rules.specs.Boxes.{boxCount, childCount, childOf, nextBox, listGood}
 use Rattle.layout.specs.Places.{parentOf, levelsAbove, levelGood, levelsGood, weightsBelow, placeOf, sizesGood}
 use Rattle.layout.specs.Answer.{nowhere, answerOf, leavesOf}
 use Rattle.layout.specs.Tiling.{Inside}
@@ -28,11 +28,6 @@ abbrev pub placedOn : (list : List ℕ) (X Y : ℕ) → Leaves
 placedOn list X Y =
     firstOf (case (not (levelsGood list)) 30 ∷ case (not (sizesGood list X Y)) 31 ∷ []) (λ number. answerOf number [])
     (answerOf 0 (leavesOf list X Y))
-
--- the boxes of a list end where it ends
-pub record Framed (list : List ℕ) : Type 0 where
-  pub few : boxCount list ≤ 64
-  pub whole : startOf list (boxCount list) ≡ length list
 
 -- ---- shares
 

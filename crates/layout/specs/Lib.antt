@@ -1,5 +1,4 @@
--- Layouts: the boxes of a list and their rules, where each box stands on the panel, the answer, and what it is to tile a panel.
-pub mod Boxes
+-- Layouts: where each box of a list stands on the panel, the answer, and what it is to tile a panel.
 pub mod Places
 pub mod Answer
 pub mod Tiling

@@ -8,7 +8,7 @@ use mathlib.Core.List.{List}
 use lib.Dec.{ltb, leb, eqb}
 use Rattle.lists.specs.Rules.{allBelow}
 use Rattle.counting.specs.Below.{sumBelow, lastBelow}
-use Rattle.layout.specs.Boxes.{boxCount, childCount, weightOf, startOf, isChild, timesIn}
+use Rattle.layout_rules.specs.Boxes.{boxCount, childCount, weightOf, startOf, isChild, timesIn}
 use Rattle.layout.specs.declared.Rect.{Rect}
 
 -- ---- the tree

@@ -8,7 +8,7 @@ use lib.Dec.{ltb, leb}
 use lib.ListN.{length, getD, take}
 use Rattle.lists.specs.Rules.{every}
 use Rattle.panel.specs.Panels.{widthOf, rowsOf}
-use Rattle.layout.specs.Boxes.{listGood}
+use Rattle.layout_rules.specs.Boxes.{listGood}
 use Rattle.layout.specs.Answer.{nowhere, leavesOf}
 use Rattle.layout.specs.declared.Rect.{Rect}
 use Rattle.layout.specs.declared.Leaves.{Leaves}

@@ -1,23 +1,10 @@
-// Layouts: the check of a list of boxes, and the places of its leaves on a panel.
+// Layouts: the places of the leaves of a list of boxes on a panel.
 ghost use mathlib.Core.Path.{_≡_};
-ghost use Prim.Native.Nat.{_+_, _-_, _*_, _/_, _%_, _≤_, _<_};
+ghost use Prim.Native.Nat.{_+_, _*_, _/_, _%_, _≤_, _<_};
 ghost use mathlib.Core.Bool.{true};
 ghost use mathlib.Core.List.{[]};
-ghost use lib.Dec.{eqb};
 ghost use lib.ListN.{length};
-ghost use Rattle.lists.specs.Rules.{allBelow};
-ghost use Rattle.layout.specs.Boxes.{
-  boxCount,
-  childCount,
-  nextBox,
-  startOf,
-  childGood,
-  boxGood,
-  timesIn,
-  timesChild,
-  childOnce,
-  listGood,
-};
+ghost use Rattle.layout_rules.specs.Boxes.{childCount, nextBox, listGood};
 ghost use Rattle.layout.specs.Places.{
   weightsBelow,
   edgeOf,
@@ -30,7 +17,6 @@ ghost use Rattle.layout.specs.Tiling.{Inside};
 ghost use Rattle.layout.specs.Facts.{
   withLeaf,
   placedOn,
-  Framed,
   ChildAt,
   ShareGood,
   ShareFound,
@@ -55,173 +41,6 @@ pub struct Leaves {
     pub number: u8,
     pub count: usize,
     pub rects: [Rect; 64],
-}
-
-// ---- the list
-
-fn wide(byte: u8) -> usize
-    ensures { λ r. ⌜ (r ≡ byte) × (r < 256) ⌝ }
-{
-    byte as usize
-}
-
-// Whether the n boxes of a list end where it ends.
-fn framed(list: &[u8], n: usize) -> bool
-    requires { ⌜ 0 < length (now list) ⌝ }
-    ensures { λ r. ⌜ r ≡ eqb (startOf (now (list .entry)) n) (length (now (list .entry))) ⌝ }
-{
-    let mut at: usize = 1;
-    let mut i: usize = 0;
-    while i < n {
-        if list.len() <= at {
-            return false;
-        }
-        let size = 1 + 2 * wide(list[at]);
-        if list.len() - at < size {
-            return false;
-        }
-        at += size;
-        i += 1;
-    }
-    at == list.len()
-}
-
-// Whether the j-th child of box i, which begins at `at`, keeps its rule.
-fn child_good(list: &[u8], i: usize, at: usize, j: usize) -> bool
-    requires { ⌜ (nextBox (now list) at ≤ length (now list)) × (j < childCount (now list) at) ⌝ }
-    ensures { λ r. ⌜ r ≡ childGood (now (list .entry)) i at j ⌝ }
-{
-    let weight = list[at + 1 + j];
-    if weight < 1 {
-        return false;
-    }
-    if 100 < weight {
-        return false;
-    }
-    let k = wide(list[at]);
-    let child = list[at + 1 + k + j];
-    if wide(child) <= i {
-        return false;
-    }
-    child < list[0]
-}
-
-// Whether box i, which begins at `at`, keeps its rule.
-fn box_good(list: &[u8], i: usize, at: usize) -> bool
-    requires { ⌜ (at ≡ startOf (now list) i) × (nextBox (now list) at ≤ length (now list)) ⌝ }
-    ensures { λ r. ⌜ r ≡ boxGood (now (list .entry)) i ⌝ }
-{
-    let k = wide(list[at]);
-    if 8 < k {
-        return false;
-    }
-    let mut j: usize = 0;
-    while j < k {
-        if !child_good(list, i, at, j) {
-            return false;
-        }
-        j += 1;
-    }
-    true
-}
-
-// Where the next box begins.
-fn next_box(list: &[u8], at: usize) -> usize
-    requires { ⌜ nextBox (now list) at ≤ length (now list) ⌝ }
-    ensures { λ r. ⌜ r ≡ nextBox (now (list .entry)) at ⌝ }
-{
-    at + 1 + 2 * wide(list[at])
-}
-
-// Whether every box keeps its rule.
-fn boxes_good(list: &[u8]) -> bool
-    requires { ⌜ Framed (now list) ⌝ }
-    ensures { λ r. ⌜ r ≡ allBelow (boxCount (now (list .entry))) (boxGood (now (list .entry))) ⌝ }
-{
-    let n = wide(list[0]);
-    let mut at: usize = 1;
-    let mut i: usize = 0;
-    while i < n {
-        if !box_good(list, i, at) {
-            return false;
-        }
-        at = next_box(list, at);
-        i += 1;
-    }
-    true
-}
-
-// How often box c is a child of the box at an index.
-fn times_in(list: &[u8], c: usize, at: usize) -> usize
-    requires { ⌜ nextBox (now list) at ≤ length (now list) ⌝ }
-    ensures { λ r. ⌜ (r ≡ timesIn (now (list .entry)) c at) × (r ≤ 255) ⌝ }
-{
-    let k = wide(list[at]);
-    let mut times: usize = 0;
-    let mut j: usize = 0;
-    while j < k {
-        if wide(list[at + 1 + k + j]) == c {
-            times += 1;
-        }
-        j += 1;
-    }
-    times
-}
-
-// How often box c is a child.
-fn times_child(list: &[u8], c: usize) -> usize
-    requires { ⌜ Framed (now list) ⌝ }
-    ensures { λ r. ⌜ r ≡ timesChild (now (list .entry)) c ⌝ }
-{
-    let n = wide(list[0]);
-    let mut times: usize = 0;
-    let mut at: usize = 1;
-    let mut i: usize = 0;
-    while i < n {
-        times += times_in(list, c, at);
-        at = next_box(list, at);
-        i += 1;
-    }
-    times
-}
-
-// Whether every box but the first is a child exactly once.
-fn each_once(list: &[u8]) -> bool
-    requires { ⌜ Framed (now list) ⌝ }
-    ensures { λ r. ⌜ r ≡ allBelow (boxCount (now (list .entry)) - 1) (childOnce (now (list .entry))) ⌝ }
-{
-    let n = wide(list[0]);
-    let mut i: usize = 0;
-    while i + 1 < n {
-        if times_child(list, i + 1) != 1 {
-            return false;
-        }
-        i += 1;
-    }
-    true
-}
-
-// Whether a list keeps every rule.
-fn list_good(list: &[u8]) -> bool
-    ensures { λ r. ⌜ r ≡ listGood (now (list .entry)) ⌝ }
-{
-    if list.len() == 0 {
-        return false;
-    }
-    let n = wide(list[0]);
-    if n < 1 {
-        return false;
-    }
-    if 64 < n {
-        return false;
-    }
-    if !framed(list, n) {
-        return false;
-    }
-    if !boxes_good(list) {
-        return false;
-    }
-    each_once(list)
 }
 
 // ---- the places
@@ -279,20 +98,6 @@ fn too_deep(chart: Chart) -> Chart
     Chart { deep: true, rects }
 }
 
-// The index at which box c begins.
-fn start_of(list: &[u8], c: usize) -> usize
-    requires { ⌜ (Framed (now list)) × (c < boxCount (now list)) ⌝ }
-    ensures { λ r. ⌜ r ≡ startOf (now (list .entry)) c ⌝ }
-{
-    let mut at: usize = 1;
-    let mut i: usize = 0;
-    while i < c {
-        at = next_box(list, at);
-        i += 1;
-    }
-    at
-}
-
 // The sum of the first n weights of the box at an index.
 fn weights_below(list: &[u8], at: usize, n: usize) -> u32
     requires { ⌜ (nextBox (now list) at ≤ length (now list)) × (n ≤ childCount (now list) at) × (n ≤ 8) ⌝ }
@@ -312,12 +117,12 @@ fn share_of(list: &[u8], at: usize, j: usize) -> Share
     requires { ⌜ ChildAt (now list) at j ⌝ }
     ensures { λ r. ⌜ ShareFound (now (list .entry)) at j r ⌝ }
 {
-    let k = wide(list[at]);
+    let k = lists::wide(list[at]);
     let low = weights_below(list, at, j);
-    let own = wide(list[at + 1 + j]) as u32;
+    let own = lists::wide(list[at + 1 + j]) as u32;
     let total = weights_below(list, at, k);
     Share {
-        child: wide(list[at + 1 + k + j]),
+        child: lists::wide(list[at + 1 + k + j]),
         low,
         own,
         total,
@@ -379,8 +184,8 @@ fn row_layout(list: &[u8], c: usize, levels: usize, place: Rect, before: Chart) 
     if levels == 0 {
         return too_deep(before);
     }
-    let at = start_of(list, c);
-    let k = wide(list[at]);
+    let at = layout_rules::start_of(list, c);
+    let k = lists::wide(list[at]);
     let mut chart = with_place(before, c, place);
     let mut j: usize = 0;
     while j < k {
@@ -397,8 +202,8 @@ fn column_layout(list: &[u8], c: usize, levels: usize, place: Rect, before: Char
     requires { ⌜ (Standing (now list) c levels place before) × (levels % 2 ≡ 1) ⌝ }
     ensures { λ r. ⌜ Placed (now (list .entry)) c place before r ⌝ }
 {
-    let at = start_of(list, c);
-    let k = wide(list[at]);
+    let at = layout_rules::start_of(list, c);
+    let k = lists::wide(list[at]);
     let mut chart = with_place(before, c, place);
     let mut j: usize = 0;
     while j < k {
@@ -470,7 +275,7 @@ fn leaves_on(list: &[u8], width: u32, height: u32) -> Leaves
         return refused(30);
     }
     let rects = chart.rects;
-    let n = wide(list[0]);
+    let n = lists::wide(list[0]);
     let mut answer = refused(0);
     let mut at: usize = 1;
     let mut c: usize = 0;
@@ -482,7 +287,7 @@ fn leaves_on(list: &[u8], width: u32, height: u32) -> Leaves
         if list[at] == 0 {
             answer = with_leaf(answer, place);
         }
-        at = next_box(list, at);
+        at = layout_rules::next_box(list, at);
         c += 1;
     }
     answer
@@ -495,7 +300,7 @@ pub fn layout(panel: u32, list: &[u8]) -> Leaves
     if !panel::is_panel(panel) {
         return refused(14);
     }
-    if !list_good(list) {
+    if !layout_rules::list_good(list) {
         return refused(29);
     }
     let p = panel as usize;

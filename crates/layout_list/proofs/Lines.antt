@@ -15,10 +15,10 @@ use Rattle.panel.specs.Panels.{widthOf, rowsOf}
 use Rattle.listing.proofs.Text.{decimal-1, decimal-2, decimal-3}
 use Rattle.lists.proofs.Cases.{entry-lt}
 use Rattle.panel.proofs.Panels.{rows-le}
-use Rattle.layout.specs.Boxes.{boxCount}
+use Rattle.layout_rules.specs.Boxes.{boxCount}
 use Rattle.layout.specs.Answer.{nowhere, leavesOf, layoutOf}
 use Rattle.layout.specs.Tiling.{Inside}
-use Rattle.layout.proofs.Boxes.{good-framed}
+use Rattle.layout_rules.proofs.Boxes.{good-framed}
 use Rattle.layout.proofs.Answer.{length-padded, leaves-le}
 use Rattle.layout.proofs.Tiling.{accepted, leaves-tile}
 use Rattle.layout.specs.declared.Rect.{Rect}

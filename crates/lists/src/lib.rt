@@ -1,8 +1,15 @@
-// The copy loops that every crate uses. What a byte list is after each is `overlayAt` of specs/Lists.antt.
+// What every crate uses: a byte as a number, and the copy loops. What a byte list is after each of these is `overlayAt` of specs/Lists.antt.
 ghost use mathlib.Core.Path.{_≡_};
-ghost use Prim.Native.Nat.{_+_, _≤_};
+ghost use Prim.Native.Nat.{_+_, _≤_, _<_};
 ghost use lib.ListN.{length, replicate};
 ghost use Rattle.lists.specs.Lists.{overlayAt};
+
+// A byte as a count or an index.
+pub fn wide(byte: u8) -> usize
+    ensures { λ r. ⌜ (r ≡ byte) × (r < 256) ⌝ }
+{
+    byte as usize
+}
 
 // Copies `bytes` into `out`, from index `at` on.
 pub fn put_at(out: &mut [u8], at: usize, bytes: &[u8])

@@ -27,7 +27,7 @@ use Rattle.bitmap.specs.Bitmap.{bitmapGood}
 use Rattle.bitmap.proofs.Numbers.{number-back}
 use Rattle.bitmap.proofs.Check.{rows-small}
 use Rattle.bitmap.proofs.Fields.{fieldAt, tests}
-use Rattle.bitmap.proofs.RoundTrip.{held}
+use Rattle.bitmap.proofs.Fields.{held}
 use Rattle.mend.specs.Mending.{mendable, mendedHeader, whiteByte, mendedByte, mendedFile, ZeroPadding, elsewhere}
 use Rattle.mend.specs.Answers.{changes}
 use Rattle.mend.proofs.Fields.{mendTests, fieldTests, fields-decide, good-mended, good-stays, byte-header, byte-padding, byte-kept, byte-missing}

@@ -1,20 +1,15 @@
-// A run: its clock, its place, when the next thing is due, and the conditions that its state keeps.
+// A run: its clock, its place, and when the next thing is due.
 ghost use mathlib.Core.Path.{_≡_};
 ghost use Prim.Native.Nat.{_+_, _-_, _*_, _^_, _≤_, _<_};
-ghost use mathlib.Core.Bool.{true};
 ghost use lib.ListN.{drop};
-ghost use mathlib.Core.Bool.{cond};
-ghost use lib.Dec.{eqb, leb};
 ghost use Rattle.settings.specs.Settings.{stepsOf};
 ghost use Rattle.settings.specs.Steps.{waitsBefore};
 ghost use Rattle.run.specs.Clock.{stepFrom, readingOf};
 ghost use Rattle.run.specs.Place.{frameNumber, nextPosition};
-ghost use Rattle.run.specs.Due.{frameDue, dueAt, dueOf};
-ghost use Rattle.run.specs.Conditions.{afterWrite, placeValid, runValid};
+ghost use Rattle.run.specs.Due.{dueAt, dueOf};
 ghost use Rattle.run.specs.Runs.{begun, waited, moved};
-ghost use Rattle.run.specs.Facts.{kindIsWrite, Ready};
+ghost use Rattle.run.specs.Facts.{Ready};
 ghost use Rattle.settings.specs.Plans.{SectionIn, PlanOf};
-use settings::Kind;
 use settings::Plan;
 use settings::Section;
 
@@ -161,7 +156,7 @@ pub fn next_position(rows: u32, frames: u32, stage: u32, frame: u32, row: u32) -
 // ---- when the next thing is due
 
 // The number of a frame, counted over the whole run.
-fn frame_number(frames: u32, stage: u32, frame: u32) -> u32
+pub fn frame_number(frames: u32, stage: u32, frame: u32) -> u32
     requires { ⌜ (1 ≤ stage) × (stage ≤ 4) × (frame < frames) × (frames ≤ 21) ⌝ }
     ensures { λ r. ⌜ (r ≡ frameNumber frames stage frame) × (r < 84) ⌝ }
 {
@@ -257,141 +252,4 @@ pub fn to_go(file: &[u8], plan: Plan, run: Run, moment: Passed) -> u32
         ),
         Position::Stop(k) => stop_to_go(file, plan, run, k, moment),
     }
-}
-
-// ---- the conditions on a run
-
-fn is_write(kind: Kind) -> bool
-    ensures { λ r. ⌜ r ≡ kindIsWrite kind ⌝ }
-{
-    match kind {
-        Kind::Write(_) => true,
-        Kind::Wait(_) => false,
-        Kind::Malformed => false,
-    }
-}
-
-// Whether step k of a section is the first one, or stands right after a write.
-fn after_write(file: &[u8], panel: usize, section: Section, k: u32) -> bool
-    requires { ⌜ (SectionIn panel (now file) section) × (k ≤ section .count) ⌝ }
-    ensures { λ r. ⌜ r ≡ afterWrite (stepsOf panel (section .count) (drop (section .at) (now (file .entry)))) k ⌝ }
-{
-    if k == 0 {
-        return true;
-    }
-    let passed = settings::pass_steps(file, panel, section.at, (k - 1) as usize);
-    let end = passed.end;
-    is_write(settings::step_at(file, end, panel))
-}
-
-// Whether frame i was due by a moment.
-fn frame_due_by(first: Passed, i: u32, moment: Passed) -> bool
-    requires { ⌜ i ≤ 84 ⌝ }
-    ensures { λ r. ⌜ r ≡ leb (frameDue (first .0) i) (moment .0) ⌝ }
-{
-    if moment.0 < first.0 {
-        return false;
-    }
-    (30 * i) as u64 <= moment.0 - first.0
-}
-
-// The frame of the line that went out before something of frame i: the one before it for the first thing, of number 0.
-fn frame_before(i: u32, number: u32) -> u32
-    requires { ⌜ 0 < i + number ⌝ }
-    ensures { λ r. ⌜ r ≡ i - cond (eqb number 0) 1 0 ⌝ }
-{
-    if number == 0 {
-        return i - 1;
-    }
-    i
-}
-
-fn start_valid(file: &[u8], plan: Plan, run: Run, k: u32) -> bool
-    requires { ⌜ PlanOf (now file) plan ⌝ }
-    ensures { λ r. ⌜ r ≡ placeValid (now (file .entry)) run (Position.Start k) ⌝ }
-{
-    let starts = plan.start;
-    if starts.count < k as usize {
-        return false;
-    }
-    if !after_write(file, plan.panel, starts, k) {
-        return false;
-    }
-    if run.first.0 != 0 {
-        return false;
-    }
-    if k == 0 {
-        return run.handed.0 == 0;
-    }
-    true
-}
-
-fn line_valid(file: &[u8], plan: Plan, run: Run, stage: u32, frame: u32, row: u32) -> bool
-    requires { ⌜ PlanOf (now file) plan ⌝ }
-    ensures { λ r. ⌜ r ≡ placeValid (now (file .entry)) run (Position.Line stage frame row) ⌝ }
-{
-    let first = run.first;
-    let handed = run.handed;
-    if stage < 1 {
-        return false;
-    }
-    if 4 < stage {
-        return false;
-    }
-    if plan.shape.frames <= frame {
-        return false;
-    }
-    if plan.shape.rows <= row as usize {
-        return false;
-    }
-    let i = frame_number(plan.shape.frames, stage, frame);
-    if i + row == 0 {
-        return false;
-    }
-    frame_due_by(first, frame_before(i, row), handed)
-}
-
-fn stop_valid(file: &[u8], plan: Plan, run: Run, k: u32) -> bool
-    requires { ⌜ PlanOf (now file) plan ⌝ }
-    ensures { λ r. ⌜ r ≡ placeValid (now (file .entry)) run (Position.Stop k) ⌝ }
-{
-    let first = run.first;
-    let handed = run.handed;
-    let stops = plan.stop;
-    if stops.count < k as usize {
-        return false;
-    }
-    if !after_write(file, plan.panel, stops, k) {
-        return false;
-    }
-    frame_due_by(first, frame_before(4 * plan.shape.frames, k), handed)
-}
-
-fn place_valid(file: &[u8], plan: Plan, run: Run) -> bool
-    requires { ⌜ PlanOf (now file) plan ⌝ }
-    ensures { λ r. ⌜ r ≡ placeValid (now (file .entry)) run (run .next) ⌝ }
-{
-    let next = run.next;
-    match next {
-        Position::Start(k) => start_valid(file, plan, run, k),
-        Position::Line { stage, frame, row } => line_valid(file, plan, run, stage, frame, row),
-        Position::Stop(k) => stop_valid(file, plan, run, k),
-    }
-}
-
-// Whether a run keeps the conditions, where there are slots 1 to `slots`.
-pub fn run_valid(file: &[u8], plan: Plan, slots: u32, run: Run) -> bool
-    requires { ⌜ PlanOf (now file) plan ⌝ }
-    ensures { λ r. ⌜ r ≡ runValid (now (file .entry)) slots run ⌝ }
-{
-    if run.slot < 1 {
-        return false;
-    }
-    if slots < run.slot {
-        return false;
-    }
-    if run.passed.0 < run.handed.0 {
-        return false;
-    }
-    place_valid(file, plan, run)
 }

@@ -14,9 +14,9 @@ use Rattle.panel.specs.declared.Shape.{Shape}
 use Rattle.picture.specs.Slots.{pictureOf, rawOf, slotBytes, withBytes}
 use Rattle.picture.specs.Facts.{SlotIn}
 use Rattle.picture.proofs.Slots.{lent-picture, lent-back}
-use Rattle.bitmap.specs.Bitmap.{readPicture, writtenFile}
-use Rattle.bitmap.proofs.RoundTrip.{length-read}
-use Rattle.fill.specs.declared.Fed.{Fed}
+use Rattle.bitmap_codec.specs.Codec.{readPicture, writtenFile}
+use Rattle.bitmap_codec.proofs.RoundTrip.{length-read}
+use Rattle.fill_calls.specs.declared.Fed.{Fed}
 use Rattle.slots.specs.Slots.{bitmapDrawn, bitmapWritten, onSlot}
 
 -- ---- sizes

@@ -17,7 +17,7 @@ use Rattle.bitmap.specs.Header.{headerLength, fileLength}
 use Rattle.bitmap.specs.Bitmap.{bitmapGood}
 use Rattle.fill.specs.Fills.{rowsCome}
 use Rattle.fill.specs.declared.Fill.{Fill}
-use Rattle.fill.specs.declared.Fed.{Fed}
+use Rattle.fill_calls.specs.declared.Fed.{Fed}
 use Rattle.slots.specs.Slots.{regionDrawn, bitmapDrawn, chunkWrites}
 use Rattle.slots.specs.Facts.{bitmapPlaced, regionPlaced}
 

@@ -11,10 +11,11 @@ use Rattle.lists.specs.Rules.{Case, case}
 use Rattle.panel.specs.declared.Shape.{Shape}
 use Rattle.picture.specs.Slots.{slotBytes, withBytes, slotPicture, withPicture}
 use Rattle.picture.specs.Regions.{withRegion}
-use Rattle.bitmap.specs.Bitmap.{bitmapGood, readPicture, writtenFile}
+use Rattle.bitmap.specs.Bitmap.{bitmapGood}
+use Rattle.bitmap_codec.specs.Codec.{readPicture, writtenFile}
 use Rattle.fill.specs.Fills.{rowsCome}
 use Rattle.fill.specs.declared.Fill.{Fill}
-use Rattle.fill.specs.declared.Fed.{Fed}
+use Rattle.fill_calls.specs.declared.Fed.{Fed}
 use Rattle.summary.specs.Summaries.{summaryOf}
 use Rattle.summary.specs.declared.Summary.{Summary}
 

@@ -5,7 +5,7 @@ ghost use lib.ListN.{length};
 ghost use Rattle.panel.specs.Facts.{Sized};
 ghost use Rattle.bitmap.specs.Header.{fileLength};
 ghost use Rattle.fill.specs.Fills.{rowsCome};
-ghost use Rattle.fill.specs.Feeding.{feeding, finishing, cancelling};
+ghost use Rattle.fill_calls.specs.Calls.{feeding, finishing, cancelling};
 ghost use Rattle.slots.specs.Slots.{
   storeBytes,
   bitmapDrawn,
@@ -15,8 +15,8 @@ ghost use Rattle.slots.specs.Slots.{
   countedIn,
 };
 ghost use Rattle.slots.specs.Facts.{SlotOf, bitmapPlaced, regionPlaced};
-use fill::Fed;
 use fill::Fill;
+use fill_calls::Fed;
 use panel::Shape;
 use summary::Summary;
 
@@ -43,7 +43,7 @@ fn read_slot(shape: Shape, memory: &mut [u8], slot: u32, bitmap: &[u8])
 {
     let start = slot_start(shape, slot);
     let end = start + shape.rows * shape.bytes;
-    bitmap::read_bitmap(
+    bitmap_codec::read_bitmap(
         shape.bytes,
         shape.rows,
         shape.stride,
@@ -96,7 +96,7 @@ pub fn write_slot(shape: Shape, memory: &[u8], slot: u32, out: &mut [u8])
 {
     let start = slot_start(shape, slot);
     let end = start + shape.rows * shape.bytes;
-    bitmap::write_bitmap(
+    bitmap_codec::write_bitmap(
         shape.bytes,
         shape.rows,
         shape.stride,
@@ -113,7 +113,7 @@ pub fn feed_slot(shape: Shape, memory: &mut [u8], fill: Fill, chunk: &[u8]) -> F
 {
     let start = slot_start(shape, fill.slot);
     let end = start + shape.rows * shape.bytes;
-    fill::feed(
+    fill_calls::feed(
         shape.bytes,
         shape.rows,
         shape.stride,
@@ -131,7 +131,7 @@ pub fn finish_slot(shape: Shape, memory: &mut [u8], fill: Fill) -> Fed
 {
     let start = slot_start(shape, fill.slot);
     let end = start + shape.rows * shape.bytes;
-    fill::finish(
+    fill_calls::finish(
         shape.bytes,
         shape.rows,
         shape.stride,
@@ -148,7 +148,7 @@ pub fn cancel_slot(shape: Shape, memory: &mut [u8], fill: Fill) -> Fed
 {
     let start = slot_start(shape, fill.slot);
     let end = start + shape.rows * shape.bytes;
-    fill::cancel(shape.bytes, shape.rows, &mut memory[start..end])
+    fill_calls::cancel(shape.bytes, shape.rows, &mut memory[start..end])
 }
 
 // How many rows these bytes of a file make whole.

@@ -6,8 +6,9 @@ use Prim.Native.Nat.{ℕ, suc, _+_, _^_, _≤_, _<_}
 use native.Mathlib.Omega.{arith}
 use lib.IntN.{ℤ}
 use lib.ListN.{length, take}
-use Rattle.finish_panel.specs.Order.{Thing, write, delay, busyHigh, done}
-use Rattle.finish_panel.specs.Update.{bytesOf, answerOf, answerValue, putOut, normalGood, fastGood, thingAt, normalThings, fastThings, normalUpdate, fastUpdate, Accepted, roomForAll, InOrder}
+use Rattle.finish_order.specs.Order.{Thing, write, delay, busyHigh, done, thingAt}
+use Rattle.finish_rules.specs.Rules.{normalGood, fastGood, Accepted}
+use Rattle.finish_panel.specs.Update.{bytesOf, answerOf, answerValue, putOut, normalThings, fastThings, normalUpdate, fastUpdate, roomForAll, InOrder}
 use Rattle.finish_panel.specs.declared.Answer.{Answer}
 use Rattle.finish_panel.proofs.Whole.{normal-in-order, fast-in-order}
 use Rattle.start_board.specs.Words.{asWord, kindIn, valueIn}

@@ -8,7 +8,8 @@ use denote.Ref.{now}
 use lib.IntN.{ℤ}
 use lib.ListN.{length}
 use Rattle.lists.proofs.Calls.{Call, AsksNothing}
-use Rattle.finish_panel.specs.Update.{normalGood, fastGood, normalThings, fastThings, Accepted, roomForAll}
+use Rattle.finish_rules.specs.Rules.{normalGood, fastGood, Accepted}
+use Rattle.finish_panel.specs.Update.{normalThings, fastThings, roomForAll}
 use Rattle.start_board.specs.Finish.{WordsInOrder}
 use Rattle.start_board.proofs.FinishOrder.{normal-words, fast-words}
 use Rattle.start_board.proofs.finish.epd_normal_update.Kinds as normal-kinds

@@ -9,16 +9,18 @@ use native.Mathlib.Nat.{eq-or-lt-of-le}
 use native.Mathlib.Omega.{arith}
 use lib.ListN.{length, take, length-drop}
 use Rattle.lists.specs.Lists.{overlay}
+use Rattle.hall_commands.specs.Commands.{dataIn}
+use Rattle.hall_commands.specs.Reading.{readerAt, reply, reading}
+use Rattle.hall_commands.specs.Order.{readNext, readInOrder}
+use Rattle.hall_commands.specs.declared.Reply.{Reply}
+use Rattle.hall_commands.proofs.Reading.{read-accepted}
+use Rattle.hall_commands.proofs.Order.{joined-cong, read-cong, not-refused}
 use Rattle.hall_display.specs.Panels.{isDisplay, imageBytes, header}
-use Rattle.hall_display.specs.Commands.{dataIn}
 use Rattle.hall_display.specs.Upload.{putOut, uploading}
-use Rattle.hall_display.specs.Reading.{readerAt, reply, reading}
-use Rattle.hall_display.specs.Order.{readNext, readInOrder, imageCommands, Uploaded}
+use Rattle.hall_display.specs.Order.{imageCommands, Uploaded}
 use Rattle.hall_display.specs.declared.Answer.{Answer}
 use Rattle.hall_display.specs.declared.Answer.the-variants.{Command}
-use Rattle.hall_display.specs.declared.Reply.{Reply}
-use Rattle.hall_display.proofs.Reading.{read-accepted}
-use Rattle.hall_display.proofs.Order.{joined-cong, read-cong, not-refused, upload-whole}
+use Rattle.hall_display.proofs.Order.{upload-whole}
 use Rattle.start_board.specs.Words.{word, asWord, kindIn, valueIn}
 use Rattle.start_board.specs.Hall.{commandWord, readWord, commandPut, WordsUploaded, pointerAt, slotAt, WordsRead}
 use Rattle.start_board.proofs.Reading.{kind-of, value-of}

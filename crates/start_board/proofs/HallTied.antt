@@ -11,10 +11,11 @@ use lib.ListN.{length, take, drop}
 use lib.Seq.{take-at}
 use Rattle.lists.specs.Lists.{overlay}
 use Rattle.lists.proofs.Calls.{Call, AsksNothing}
+use Rattle.hall_commands.specs.Commands.{dataIn}
+use Rattle.hall_commands.specs.Order.{joined}
 use Rattle.hall_display.specs.Panels.{isDisplay, imageBytes, header}
-use Rattle.hall_display.specs.Commands.{dataIn}
 use Rattle.hall_display.specs.Upload.{uploading}
-use Rattle.hall_display.specs.Order.{joined, imageCommands}
+use Rattle.hall_display.specs.Order.{imageCommands}
 use Rattle.hall_display.proofs.Panels.{header-length}
 use Rattle.start_board.specs.Words.{asWord}
 use Rattle.start_board.specs.Hall.{headerPut, commandWord, commandPut, WordsUploaded, pointerAt, slotAt, WordsRead}

@@ -11,15 +11,15 @@ use lib.ListN.{length}
 use Rattle.lists.specs.Lists.{overlay, overlayAt}
 use Rattle.lists.specs.Rules.{Case, case, firstOf}
 use Rattle.lists.proofs.Rules.{None, past, none-of, first-map, some-append}
+use Rattle.hall_commands.specs.Reading.{readerAt, reading}
+use Rattle.hall_commands.specs.declared.Reply.{Reply}
+use Rattle.hall_commands.proofs.Reading.{read-accepted}
 use Rattle.hall_display.specs.Panels.{isDisplay, header}
 use Rattle.hall_display.specs.Upload.{makeHeader}
-use Rattle.hall_display.specs.Reading.{readerAt, reading}
 use Rattle.hall_display.specs.declared.Answer.{Answer}
 use Rattle.hall_display.specs.declared.Header.{Header}
-use Rattle.hall_display.specs.declared.Reply.{Reply}
 use Rattle.hall_display.proofs.Panels.{header-length}
 use Rattle.hall_display.proofs.Upload.{made-bytes}
-use Rattle.hall_display.proofs.Reading.{read-accepted}
 use Rattle.start_board.specs.Words.{word, asWord}
 use Rattle.start_board.specs.Hall.{headerPut, commandWord, readWord}
 

@@ -4,8 +4,8 @@ use mathlib.Core.Path.{_≡_}
 use mathlib.Core.List.{List}
 use Prim.Native.Nat.{ℕ, _<_}
 use lib.ListN.{length, take}
-use Rattle.finish_panel.specs.Order.{Thing}
-use Rattle.finish_panel.specs.Update.{bytesOf, answerOf, answerValue, thingAt}
+use Rattle.finish_order.specs.Order.{Thing, thingAt}
+use Rattle.finish_panel.specs.Update.{bytesOf, answerOf, answerValue}
 use Rattle.finish_panel.specs.declared.Answer.{Answer}
 use Rattle.finish_panel.specs.declared.Answer.the-variants.{Refused, Write, Delay, BusyHigh, Done}
 use Rattle.start_board.specs.Words.{word, kindIn, valueIn}

@@ -8,13 +8,14 @@ use lib.Dec.{eqb, ltb}
 use lib.ListN.{length, take}
 use Rattle.lists.specs.Lists.{overlay}
 use Rattle.lists.specs.Rules.{case, firstOf}
+use Rattle.hall_commands.specs.Commands.{dataIn}
+use Rattle.hall_commands.specs.Order.{joined}
+use Rattle.hall_commands.specs.declared.Reply.{Reply}
 use Rattle.hall_display.specs.Panels.{isDisplay, header}
-use Rattle.hall_display.specs.Commands.{dataIn}
 use Rattle.hall_display.specs.Upload.{answerValue}
-use Rattle.hall_display.specs.Order.{joined, imageCommands}
+use Rattle.hall_display.specs.Order.{imageCommands}
 use Rattle.hall_display.specs.declared.Answer.{Answer}
 use Rattle.hall_display.specs.declared.Answer.the-variants.{Refused, Command, NoMore}
-use Rattle.hall_display.specs.declared.Reply.{Reply}
 use Rattle.start_board.specs.Words.{word, kindIn, valueIn}
 
 -- ---- the answers

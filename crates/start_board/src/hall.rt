@@ -1,13 +1,13 @@
-// The hall display's calls: the answers of the functions of `hall_display` as numbers and words.
+// The hall display's calls: the answers of `hall_display`, `hall_commands` and `hall_checksum` as numbers and words.
 ghost use mathlib.Core.Path.{_≡_};
+ghost use Rattle.hall_checksum.specs.Checksum.{checksumFrom};
+ghost use Rattle.hall_commands.specs.Reading.{readerAt, reading};
 ghost use Rattle.hall_display.specs.Upload.{uploading};
-ghost use Rattle.hall_display.specs.Reading.{readerAt, reading};
-ghost use Rattle.hall_display.specs.Checksum.{checksumFrom};
 ghost use Rattle.start_board.specs.Words.{asWord};
 ghost use Rattle.start_board.specs.Hall.{headerPut, commandWord, readWord};
 use crate::words;
+use hall_commands::Reader;
 use hall_display::Answer;
-use hall_display::Reader;
 
 // The header of a panel's image: 0; or 24, no such panel or depth; or 11, the output too short.
 #[no_mangle]
@@ -75,7 +75,7 @@ pub extern "C" fn epd_hall_read(slot: u32, at: usize, command: &[u8], memory: &m
 pub extern "C" fn epd_hall_checksum(start: u16, bytes: &[u8]) -> u16
     ensures { λ r. ⌜ r ≡ checksumFrom start (now (bytes .entry)) ⌝ }
 {
-    hall_display::checksum_by_table(start, bytes)
+    hall_checksum::checksum_by_table(start, bytes)
 }
 
 // The same, as document 003 prints it.
@@ -83,5 +83,5 @@ pub extern "C" fn epd_hall_checksum(start: u16, bytes: &[u8]) -> u16
 pub extern "C" fn epd_hall_checksum_printed(start: u16, bytes: &[u8]) -> u16
     ensures { λ sum. ⌜ sum ≡ checksumFrom start (now (bytes .entry)) ⌝ }
 {
-    hall_display::checksum(start, bytes)
+    hall_checksum::checksum(start, bytes)
 }

@@ -35,7 +35,7 @@ fn phase_valid(file: &[u8], plan: Plan, store: Store) -> bool
     match phase {
         Phase::Idle => true,
         Phase::Abandoned => true,
-        Phase::Running(run) => run::run_valid(file, plan, store.slots, run),
+        Phase::Running(run) => run_conditions::run_valid(file, plan, store.slots, run),
     }
 }
 
@@ -63,7 +63,7 @@ fn fill_valid(shape: Shape, store: Store) -> bool
     if is_runs_slot(phase, fill.slot) {
         return false;
     }
-    fill::valid(shape.bytes, shape.rows, shape.stride, fill)
+    fill_conditions::valid(shape.bytes, shape.rows, shape.stride, fill)
 }
 
 // Whether what is kept of the slots does: the fill, and the summaries of slots 0 to n.
@@ -75,7 +75,7 @@ fn slots_valid(shape: Shape, store: Store) -> bool
         return false;
     }
     let summaries = store.summaries;
-    summary::summaries_good(shape.bytes, shape.rows, store.slots as usize, summaries)
+    summary_conditions::summaries_good(shape.bytes, shape.rows, store.slots as usize, summaries)
 }
 
 // Whether a state keeps its conditions, and the plan of its file where it does. The file is the first `len` bytes.

@@ -1,10 +1,8 @@
-// What a state keeps of its store, the conditions that a state keeps, and the number of every call that is refused by them or by the
-// slots; docs/STATE.md and docs/FORMATS.md say both in words.
+// What a state keeps of its store, and the conditions that a state keeps; docs/STATE.md says them in words.
 ghost use mathlib.Core.Path.{_≡_};
 ghost use Rattle.store.specs.Store.{newStore, setPhase, setFill, setSummaries};
 
 pub mod checks;
-pub mod refusals;
 
 use fill::Fill;
 use run::Phase;

@@ -5,7 +5,6 @@ ghost use lib.Dec.{eqb};
 ghost use lib.ListN.{length, getD, set, replicate};
 ghost use Rattle.picture.specs.Slots.{pictureOf, slotPicture};
 ghost use Rattle.summary.specs.Summaries.{summaryOf, emptySummary};
-ghost use Rattle.summary.specs.Conditions.{spanGood, summaryGood, summariesGood};
 ghost use Rattle.summary.specs.Facts.{blackInByte, blackFrom, firstBlack, lastBlack};
 ghost use Rattle.summary.specs.declared.Found.the-variants.{At};
 
@@ -222,51 +221,4 @@ pub fn with_shown(summaries: [Summary; 8], slot: usize) -> [Summary; 8]
     ensures { λ r. ⌜ r ≡ set summaries 0 (getD summaries slot emptySummary) ⌝ }
 {
     with_summary(summaries, 0, summary_at(summaries, slot))
-}
-
-// ---- the conditions of 13
-
-// Whether the rows of a summary keep the conditions, at its count.
-fn span_good(h: usize, black: u32, span: Span) -> bool
-    ensures { λ r. ⌜ r ≡ spanGood h black span ⌝ }
-{
-    match span {
-        Span::Blank => black == 0,
-        Span::Rows { first, last } => {
-            if black == 0 {
-                return false;
-            }
-            if last < first {
-                return false;
-            }
-            (last as usize) < h
-        }
-    }
-}
-
-// Whether a summary does.
-fn summary_good(b: usize, h: usize, summary: Summary) -> bool
-    requires { ⌜ (b ≤ 33) × (h ≤ 176) ⌝ }
-    ensures { λ r. ⌜ r ≡ summaryGood b h summary ⌝ }
-{
-    let span = summary.span;
-    if 8 * b * h < summary.black as usize {
-        return false;
-    }
-    span_good(h, summary.black, span)
-}
-
-// Whether those of slots 0 to n do. Places after that of slot n are no slots.
-pub fn summaries_good(b: usize, h: usize, n: usize, summaries: [Summary; 8]) -> bool
-    requires { ⌜ (b ≤ 33) × (h ≤ 176) × (n ≤ 7) ⌝ }
-    ensures { λ r. ⌜ r ≡ summariesGood b h n summaries ⌝ }
-{
-    let mut slot: usize = 0;
-    while slot <= n {
-        if !summary_good(b, h, summaries[slot]) {
-            return false;
-        }
-        slot += 1;
-    }
-    true
 }

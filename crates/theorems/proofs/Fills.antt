@@ -18,19 +18,21 @@ use Rattle.panel.specs.declared.Shape.{Shape}
 use Rattle.picture.specs.Slots.{pictureOf, rawOf, slotBytes, withBytes, slotPicture, withPicture}
 use Rattle.picture.proofs.Pictures.{Bytes, bytes-take, bytes-drop, bytes-append}
 use Rattle.picture.proofs.Slots.{Rows, slot-fits, length-raw, blank-picture, picture-raw, length-with, bytes-same, bytes-other, with-own}
-use Rattle.bitmap.specs.Bitmap.{bitmapGood, readPicture}
-use Rattle.bitmap.proofs.RoundTrip.{rows-read}
+use Rattle.bitmap.specs.Bitmap.{bitmapGood}
+use Rattle.bitmap_codec.specs.Codec.{readPicture}
+use Rattle.bitmap_codec.proofs.RoundTrip.{rows-read}
 use Rattle.bitmap_prefix.specs.Begins.{beginsGood}
 use Rattle.bitmap_prefix.proofs.Begins.{both, begins-front, begins-empty}
 use Rattle.bitmap_prefix.proofs.Whole.{good-begins, good-length}
 use Rattle.fill.specs.Fills.{begunFill, emptyFill, rowsCome, fillOf, slotOf}
-use Rattle.fill.specs.Feeding.{feeding, finishing, cancelling, fed, ended, whiteSlot}
+use Rattle.fill_calls.specs.Calls.{feeding, finishing, cancelling, fed, ended, whiteSlot}
 use Rattle.fill.specs.Conditions.{fillValid}
 use Rattle.fill.specs.declared.Fill.{Fill}
-use Rattle.fill.specs.declared.Fed.{Fed}
+use Rattle.fill_calls.specs.declared.Fed.{Fed}
 use Rattle.fill.proofs.Kept.{none-empty}
 use Rattle.fill.proofs.Written.{rows-grow, rows-all}
-use Rattle.fill.proofs.SoFar.{fed-so-far, finished-so-far, begun-so-far}
+use Rattle.fill.proofs.SoFar.{begun-so-far}
+use Rattle.fill_calls.proofs.SoFar.{fed-so-far, finished-so-far}
 use Rattle.run.specs.Runs.{begun, waited}
 use Rattle.summary.specs.Summaries.{summaryOf}
 use Rattle.summary.specs.declared.Summary.{Summary}

@@ -16,7 +16,7 @@ use Rattle.settings.specs.Steps.{fromWrite}
 use Rattle.settings.proofs.Accepted.{good-short, good-panel}
 use Rattle.fill.specs.Fills.{begunFill, emptyFill}
 use Rattle.fill.specs.Conditions.{fillValid}
-use Rattle.fill.specs.declared.Fed.{Fed}
+use Rattle.fill_calls.specs.declared.Fed.{Fed}
 use Rattle.fill.proofs.Kept.{valid-begun}
 use Rattle.summary.specs.Conditions.{summariesGood}
 use Rattle.summary.specs.declared.Summary.{Summary}

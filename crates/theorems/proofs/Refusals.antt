@@ -16,9 +16,10 @@ use Rattle.picture.specs.Slots.{pictureOf, slotBytes, withBytes, slotPicture}
 use Rattle.picture.proofs.Slots.{bytes-same}
 use Rattle.bitmap.specs.Header.{fileLength}
 use Rattle.fill.specs.Fills.{emptyFill}
-use Rattle.fill.specs.Feeding.{bytesFed, goesOn, fed, whiteSlot, ended, feeding, finishing, cancelling}
+use Rattle.fill.specs.Feeding.{bytesFed}
+use Rattle.fill_calls.specs.Calls.{goesOn, fed, whiteSlot, ended, feeding, finishing, cancelling}
 use Rattle.fill.specs.declared.Fill.{Fill}
-use Rattle.fill.specs.declared.Fed.{Fed}
+use Rattle.fill_calls.specs.declared.Fed.{Fed}
 use Rattle.summary.specs.Summaries.{summaryOf, emptySummary}
 use Rattle.summary.proofs.Kept.{white-summary}
 use Rattle.run.specs.declared.Tick.{Tick}

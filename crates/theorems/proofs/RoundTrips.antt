@@ -21,8 +21,9 @@ use Rattle.picture.specs.Slots.{slotPicture, withPicture}
 use Rattle.picture.proofs.Pictures.{Bytes}
 use Rattle.picture.proofs.Slots.{Rows, slot-fits, rows-slot, with-own-picture, length-with-picture, picture-same, others-kept}
 use Rattle.bitmap.specs.Header.{fileLength}
-use Rattle.bitmap.specs.Bitmap.{bitmapGood, readPicture, writtenFile, normalForm}
-use Rattle.bitmap.proofs.RoundTrip.{length-file, rows-read, read-written, write-read, read-normal, good-written}
+use Rattle.bitmap.specs.Bitmap.{bitmapGood}
+use Rattle.bitmap_codec.specs.Codec.{readPicture, writtenFile, normalForm}
+use Rattle.bitmap_codec.proofs.RoundTrip.{length-file, rows-read, read-written, write-read, read-normal, good-written}
 use Rattle.slots.specs.Slots.{bitmapCases, bitmapDrawn, bitmapWritten}
 use Rattle.store.specs.Conditions.{isRunsSlot}
 use Rattle.store.specs.Refusals.{isFilled, uploadOwn, writeOwn}

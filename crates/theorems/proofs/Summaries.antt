@@ -9,7 +9,7 @@ use Rattle.lists.proofs.Rules.{by-test, taken}
 use Rattle.settings.specs.Settings.{rowBytesIn, rowsIn}
 use Rattle.picture.specs.Slots.{slotBytes, withBytes, slotPicture}
 use Rattle.picture.proofs.Slots.{with-own}
-use Rattle.fill.specs.declared.Fed.{Fed}
+use Rattle.fill_calls.specs.declared.Fed.{Fed}
 use Rattle.summary.specs.Summaries.{summaryOf, emptySummary, SummariesFresh}
 use Rattle.summary.specs.declared.Summary.{Summary}
 use Rattle.summary.proofs.Kept.{fresh-opened, fresh-written, fresh-drawn, fresh-copied}

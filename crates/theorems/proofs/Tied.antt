@@ -14,7 +14,7 @@ use Rattle.lists.proofs.Rules.{by-cases}
 use Rattle.settings.specs.Settings.{panelOf, rowBytesIn, rowsIn, strideIn}
 use Rattle.picture.specs.Slots.{slotPicture}
 use Rattle.bitmap.specs.Header.{fileLength}
-use Rattle.bitmap.specs.Bitmap.{normalForm}
+use Rattle.bitmap_codec.specs.Codec.{normalForm}
 use Rattle.summary.specs.Summaries.{summaryOf}
 use Rattle.store.specs.Refusals.{openCases}
 use Rattle.board.specs.State.{fileOf, sizesOf, stateValid, emptyState}

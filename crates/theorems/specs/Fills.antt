@@ -13,7 +13,8 @@ use mathlib.Core.Bool.{Bool, true, false, _&&_}
 use mathlib.Core.List.{List, [], _∷_, _++_, map}
 use lib.ListN.{replicate}
 use Rattle.picture.specs.Slots.{slotBytes, slotPicture}
-use Rattle.bitmap.specs.Bitmap.{bitmapGood, readPicture}
+use Rattle.bitmap.specs.Bitmap.{bitmapGood}
+use Rattle.bitmap_codec.specs.Codec.{readPicture}
 use Rattle.bitmap_prefix.specs.Begins.{beginsGood}
 use Rattle.fill.specs.Fills.{slotOf}
 use Rattle.board.specs.State.{sizesOf}

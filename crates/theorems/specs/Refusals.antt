@@ -8,7 +8,7 @@ use lib.Dec.{eqb}
 use lib.ListN.{set}
 use Rattle.picture.specs.Slots.{withBytes}
 use Rattle.fill.specs.Fills.{emptyFill}
-use Rattle.fill.specs.Feeding.{whiteSlot}
+use Rattle.fill_calls.specs.Calls.{whiteSlot}
 use Rattle.summary.specs.Summaries.{emptySummary}
 use Rattle.board.specs.State.{sizesOf, withFill, withSummaries}
 use Rattle.board.specs.History.{Call, uploadRegion, uploadBitmap, beginFill, feedFill, finishFill, cancelFill, start, poll, abandon, writeBitmap, summary, outOf, Called}

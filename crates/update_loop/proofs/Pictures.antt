@@ -14,7 +14,7 @@ use Rattle.panel.specs.declared.Shape.{Shape}
 use Rattle.panel.proofs.Panels.{size-of}
 use Rattle.picture.specs.Slots.{pictureOf, rawOf}
 use Rattle.bitmap.specs.Header.{fileLength}
-use Rattle.bitmap.specs.Bitmap.{readPicture}
+use Rattle.bitmap_codec.specs.Codec.{readPicture}
 use Rattle.summary.specs.Summaries.{summaryOf}
 use Rattle.summary.specs.declared.Summary.{Summary}
 use Rattle.update_loop.specs.Pictures.{isPicture, pictureCopied, pictureCounted}

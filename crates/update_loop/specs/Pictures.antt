@@ -9,7 +9,7 @@ use Rattle.lists.specs.Rules.{Case, case, firstOf}
 use Rattle.panel.specs.Panels.{isPanel, rowBytesOf, rowsOf, strideOf, pictureBytesOf}
 use Rattle.picture.specs.Slots.{pictureOf, rawOf}
 use Rattle.bitmap.specs.Header.{fileLength}
-use Rattle.bitmap.specs.Bitmap.{readPicture}
+use Rattle.bitmap_codec.specs.Codec.{readPicture}
 use Rattle.summary.specs.Summaries.{blackDots}
 
 -- a picture of n bytes is one of a panel

@@ -27,7 +27,7 @@ pub extern "C" fn picture_copy(panel: u32, bitmap: &[u8], picture: &mut [u8]) ->
     if bitmap.len() != bitmap::file_length(shape.rows, shape.stride) {
         return 4;
     }
-    bitmap::read_bitmap(shape.bytes, shape.rows, shape.stride, bitmap, picture);
+    bitmap_codec::read_bitmap(shape.bytes, shape.rows, shape.stride, bitmap, picture);
     0
 }
 

@@ -10,10 +10,12 @@ use mir.Val.{toZ, ofZ}
 use mir.Facts.{toZ-ofZ}
 use Rattle.lists.specs.Rules.{Case, firstOf}
 use Rattle.lists.proofs.Rules.{None, none-of}
-use Rattle.finish_panel.specs.Order.{Thing, thingsOf}
-use Rattle.finish_panel.specs.Update.{fastGood, fastIndex, refusals, thingAt, fastUpdate, Accepted}
+use Rattle.finish_order.specs.Order.{Thing, thingsOf, thingAt}
+use Rattle.finish_rules.specs.Rules.{fastGood, fastIndex, refusals, Accepted}
+use Rattle.finish_panel.specs.Update.{fastUpdate}
 use Rattle.finish_panel.specs.Facts.{secondFrame}
-use Rattle.finish_panel.proofs.Update.{accepted, picture-size, refuse, give, lent}
+use Rattle.finish_rules.proofs.Rules.{accepted, picture-size}
+use Rattle.finish_panel.proofs.Update.{refuse, give, lent}
 use Rattle.finish_panel.proofs.fast_update.Statement.{statement}
 use Rattle.finish_panel.proofs.fast_update.Tie as tie
 

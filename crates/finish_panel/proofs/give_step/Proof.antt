@@ -3,7 +3,7 @@
 use mathlib.Core.Path.{refl}
 use borrow.Author.Tests.{leb-true}
 use borrow.Author.Needs.{needs}
-use Rattle.finish_panel.specs.Order.{delay, busyHigh, done}
+use Rattle.finish_order.specs.Order.{delay, busyHigh, done}
 use Rattle.finish_panel.proofs.Update.{no-write}
 use Rattle.finish_panel.proofs.give_step.Statement.{statement}
 use Rattle.finish_panel.proofs.give_step.Tie as tie

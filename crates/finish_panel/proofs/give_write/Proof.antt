@@ -2,7 +2,7 @@
 -- Assumes nothing.
 use native.Mathlib.Omega.{arith}
 use borrow.Author.Needs.{needs}
-use Rattle.finish_panel.specs.Order.{write}
+use Rattle.finish_order.specs.Order.{write}
 use Rattle.finish_panel.proofs.Update.{short, written}
 use Rattle.finish_panel.proofs.give_write.Statement.{statement}
 use Rattle.finish_panel.proofs.give_write.Tie as tie

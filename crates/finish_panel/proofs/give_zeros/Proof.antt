@@ -3,7 +3,7 @@
 use native.Mathlib.Omega.{arith}
 use borrow.Author.Needs.{needs}
 use lib.ListN.{replicate, length-replicate}
-use Rattle.finish_panel.specs.Order.{write}
+use Rattle.finish_order.specs.Order.{write}
 use Rattle.finish_panel.proofs.Update.{short, written}
 use Rattle.finish_panel.proofs.give_zeros.Statement.{statement}
 use Rattle.finish_panel.proofs.give_zeros.Tie as tie

@@ -10,9 +10,11 @@ use mir.Val.{toZ, ofZ}
 use mir.Facts.{toZ-ofZ}
 use Rattle.lists.specs.Rules.{Case, firstOf}
 use Rattle.lists.proofs.Rules.{None, none-of}
-use Rattle.finish_panel.specs.Order.{Thing, thingsOf}
-use Rattle.finish_panel.specs.Update.{normalGood, normalIndex, refusals, thingAt, normalUpdate, Accepted}
-use Rattle.finish_panel.proofs.Update.{accepted, picture-size, refuse, give}
+use Rattle.finish_order.specs.Order.{Thing, thingsOf, thingAt}
+use Rattle.finish_rules.specs.Rules.{normalGood, normalIndex, refusals, Accepted}
+use Rattle.finish_panel.specs.Update.{normalUpdate}
+use Rattle.finish_rules.proofs.Rules.{accepted, picture-size}
+use Rattle.finish_panel.proofs.Update.{refuse, give}
 use Rattle.finish_panel.proofs.normal_update.Statement.{statement}
 use Rattle.finish_panel.proofs.normal_update.Tie as tie
 

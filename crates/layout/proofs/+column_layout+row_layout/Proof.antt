@@ -6,10 +6,10 @@ use Prim.Native.Nat.{ℕ, _-_, _≤_, _<_}
 use denote.Ref.{now}
 use borrow.Author.Needs.{needs}
 use native.Mathlib.Omega.{arith}
-use Rattle.layout.specs.Boxes.{childCount, startOf}
+use Rattle.layout_rules.specs.Boxes.{childCount, startOf}
 use Rattle.layout.specs.Places.{levelsAbove}
 use Rattle.layout.specs.Facts.{ShareFound}
-use Rattle.layout.proofs.Boxes.{good-framed, box-within}
+use Rattle.layout_rules.proofs.Boxes.{good-framed, box-within}
 use Rattle.layout.proofs.Places.{child-at, row-part, column-part}
 use Rattle.layout.proofs.Layouts.{deep-placed, Divided, room, none-divided, all-divided, child-stands, more-divided}
 use borrow.Fn.Kinds.{In}
@@ -22,9 +22,9 @@ use Rattle.layout.proofs.row_layout.Kinds as row-layout-kinds
 use Rattle.layout.proofs.+column_layout+row_layout.Lts-row_layout as row-layout-lts
 use Rattle.layout.proofs.height_part.Reads as height-part-reads
 use Rattle.layout.proofs.share_of.Reads as share-of-reads
-use Rattle.layout.proofs.start_of.Reads as start-of-reads
+use Rattle.layout_rules.proofs.start_of.Reads as start-of-reads
 use Rattle.layout.proofs.too_deep.Reads as too-deep-reads
-use Rattle.layout.proofs.wide.Reads as wide-reads
+use Rattle.lists.proofs.wide.Reads as wide-reads
 use Rattle.layout.proofs.width_part.Reads as width-part-reads
 use Rattle.layout.proofs.with_place.Reads as with-place-reads
 use Rattle.layout.proofs.+column_layout+row_layout.{statement}

@@ -2,7 +2,7 @@
 -- Assumes nothing.
 use mathlib.Core.Path.{refl}
 use denote.Ref.{now}
-use Rattle.layout.proofs.Boxes.{good-some}
+use Rattle.layout_rules.proofs.Boxes.{good-some}
 use Rattle.layout.proofs.Places.{levels-first}
 use Rattle.layout.proofs.Layouts.{all-placed-from}
 use borrow.Author.Needs.{needs}

@@ -8,10 +8,10 @@ use denote.Ref.{now}
 use borrow.Author.Tests.{eq-eqb, ne-eqb, not-false}
 use Rattle.lists.specs.Rules.{allBelow}
 use Rattle.lists.proofs.Rules.{refused, passed, here}
-use Rattle.layout.specs.Boxes.{boxCount, childCount, startOf}
+use Rattle.layout_rules.specs.Boxes.{boxCount, childCount, startOf}
 use Rattle.layout.specs.Places.{hasDots, levelsGood, sizeGood}
 use Rattle.layout.specs.Answer.{leavesBelow, answerOf}
-use Rattle.layout.proofs.Boxes.{some-bytes, good-framed, box-within, next-start}
+use Rattle.layout_rules.proofs.Boxes.{some-bytes, good-framed, box-within, next-start}
 use Rattle.layout.proofs.Answer.{room, leaf-more, inner-more, size-more, placed-refused, no-dots, all-placed}
 use borrow.Author.Needs.{needs}
 use native.Mathlib.Omega.{arith}

@@ -3,7 +3,7 @@
 use mathlib.Core.Path.{_≡_, refl}
 use Prim.Native.Nat.{_+_, _-_, _*_, _≤_}
 use denote.Ref.{now}
-use Rattle.layout.specs.Boxes.{weightOf}
+use Rattle.layout_rules.specs.Boxes.{weightOf}
 use Rattle.layout.specs.Places.{weightsBelow}
 use borrow.Author.Needs.{needs}
 use native.Mathlib.Omega.{arith}

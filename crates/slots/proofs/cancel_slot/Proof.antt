@@ -1,7 +1,7 @@
 -- The slot is lent as a part of the memory. Assumes nothing.
 use denote.Ref.{now}
-use Rattle.fill.specs.Feeding.{cancelling}
-use Rattle.fill.proofs.Sizes.{rows-cancelled}
+use Rattle.fill_calls.specs.Calls.{cancelling}
+use Rattle.fill_calls.proofs.Sizes.{rows-cancelled}
 use Rattle.slots.proofs.Lent.{picture-fits, end-fits, slot-ends, slot-length, slot-acted}
 use borrow.Author.Needs.{needs}
 use Rattle.slots.proofs.cancel_slot.Statement.{statement}

@@ -1,7 +1,7 @@
 -- The slot is lent as a part of the memory. Assumes nothing.
 use denote.Ref.{now}
-use Rattle.fill.specs.Feeding.{finishing}
-use Rattle.fill.proofs.Sizes.{length-finished}
+use Rattle.fill_calls.specs.Calls.{finishing}
+use Rattle.fill_calls.proofs.Sizes.{length-finished}
 use Rattle.slots.proofs.Lent.{picture-fits, end-fits, slot-ends, slot-length, slot-acted}
 use borrow.Author.Needs.{needs}
 use Rattle.slots.proofs.finish_slot.Statement.{statement}

@@ -1,0 +1,2 @@
+-- Bitmap files that come in chunks: the calls.
+pub mod Calls

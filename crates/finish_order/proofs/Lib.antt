@@ -1,0 +1,2 @@
+-- `Order` has the k-th thing of an update.
+pub mod Order

@@ -1,0 +1,3 @@
+-- `Rules` has the refusals, `Temperature` the signed numbers.
+pub mod Temperature
+pub mod Rules

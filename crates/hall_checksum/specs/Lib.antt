@@ -1,0 +1,2 @@
+-- The checksum of document 003.
+pub mod Checksum
