@@ -1,5 +1,7 @@
 // Bitmap files: the table of their fields, their palettes, and the check. A picture has h rows of b bytes; in a file they are s
 // bytes apart.
+#![tactic(auto)]
+
 ghost use Rattle.std.specs.Prelude.{◌≡◌, ℕ, ◌+◌, ◌<◌, ◌≤◌, map, length};
 ghost use Rattle.lists.specs.Lists.{overlay_at};
 ghost use Rattle.lists.specs.Rules.{every};
@@ -10,7 +12,7 @@ ghost use Rattle.bitmap.specs.Table.{number_of, field_of};
 ghost use Rattle.bitmap.specs.Bitmap.{bitmap_good, check_bitmap};
 
 // What the two entries of a palette are: black, then white; white, then black; or any others.
-#[derive(Drop)]
+#[derive(Clone, Copy)]
 pub enum Palette {
     BlackFirst,
     WhiteFirst,
@@ -20,7 +22,7 @@ pub enum Palette {
 // ---- the table of fields
 
 // What a field may hold besides its own number: nothing, one other number, or anything.
-#[derive(Drop)]
+#[derive(Clone, Copy)]
 pub enum Also {
     Only,
     Or(u8),
@@ -28,7 +30,7 @@ pub enum Also {
 }
 
 // A field of the header: its index in the file, its bytes, the number that the writer puts there, and what else it may hold.
-#[derive(Drop)]
+#[derive(Clone, Copy)]
 pub struct Field {
     pub at: usize,
     pub size: usize,
@@ -38,7 +40,7 @@ pub struct Field {
 
 // The number of an entry: the same in every file; or, for a picture, the length of its file, its width in dots, its rows, or the
 // length of these in the file.
-#[derive(Drop)]
+#[derive(Clone, Copy)]
 pub enum Number {
     Fixed(u32),
     FileLength,
@@ -48,7 +50,7 @@ pub enum Number {
 }
 
 // An entry of the table: a field for pictures of any size, with its parts in the same order.
-#[derive(Drop)]
+#[derive(Clone, Copy)]
 pub struct Entry(pub u8, pub u8, pub Number, pub Also);
 
 // The last two are the palette, on whose entries together `palette_of` decides.

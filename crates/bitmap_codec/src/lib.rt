@@ -1,5 +1,7 @@
 // The ways between a bitmap file and a slot: the writer and the reader. A picture has h rows of b bytes; in a file they are s bytes
 // apart.
+#![tactic(auto)]
+
 ghost use Rattle.std.specs.Prelude.{◌≡◌, ◌+◌, ◌-◌, ◌*◌, ◌<◌, ◌≤◌, ◌++◌, map, length, replicate, take, drop};
 ghost use Rattle.lists.specs.Lists.{overlay, overlay_at};
 ghost use Rattle.picture.specs.Slots.{picture_of, raw_of, picture_row};

@@ -1,6 +1,8 @@
 // Mends a bitmap file: the first argument is the panel's code, the file stands on standard input. The mended file goes to standard
 // output. On standard error each changed byte has a line, its offset, the old byte and the new; where bytes were added, a line has their
 // offset and count. A refusal gives one line with its number there, and nothing on standard output.
+#![tactic(auto)]
+
 ghost use Rattle.std.specs.Prelude.{◌≡◌, ◌+◌, ◌*◌, ◌<◌, ◌≤◌, length};
 
 use libc::{STDERR_FILENO, STDIN_FILENO, STDOUT_FILENO};

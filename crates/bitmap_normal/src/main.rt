@@ -1,5 +1,7 @@
 // Reads a bitmap file on standard input and writes it in normal form on standard output, or one line where it breaks a rule.
 // The panel is the one whose files have this length.
+#![tactic(auto)]
+
 ghost use Rattle.std.specs.Prelude.{◌≡◌, ℕ, ◌*◌, ◌≤◌, ◌<◌, length};
 ghost use Rattle.panel.specs.Panels.{row_bytes_of, rows_of, stride_of};
 ghost use Rattle.bitmap.specs.Header.{file_length};

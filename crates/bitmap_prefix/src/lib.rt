@@ -1,5 +1,7 @@
 // Bitmap files of which some bytes have come: whether a good file can follow. A picture has h rows of b bytes; in a file they are s
 // bytes apart.
+#![tactic(auto)]
+
 ghost use Rattle.std.specs.Prelude.{◌≡◌, ◌+◌, ◌≤◌};
 ghost use Rattle.bitmap_prefix.specs.Begins.{
   number_begins,

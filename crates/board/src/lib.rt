@@ -1,5 +1,7 @@
 // The store: its state, and the calls on it. Every call gives back the state for the next one. A refused call gives back the state that
 // it got, and every lent byte is as before, but where 4 ends a fill; docs/FORMATS.md says what each number means.
+#![tactic(auto)]
+
 ghost use Rattle.std.specs.Prelude.{◌≡◌, ◌≤◌, length};
 ghost use Rattle.settings.specs.Settings.{longest_file};
 ghost use Rattle.slots.specs.Facts.{SlotOf};
@@ -38,28 +40,28 @@ use store::{Store, checks};
 use summary::Summary;
 
 // The state of a store: its settings file, and what changes. docs/STATE.md has the conditions that it keeps.
-#[derive(Drop)]
+#[derive(Clone, Copy)]
 pub struct State {
     pub settings: Settings,
     pub store: Store,
 }
 
 // What a call gives back: its number, 0 where it is accepted, and the state for the next call.
-#[derive(Drop)]
+#[derive(Clone, Copy)]
 pub struct Reply {
     pub number: u8,
     pub state: State,
 }
 
 // What a poll gives back.
-#[derive(Drop)]
+#[derive(Clone, Copy)]
 pub struct Polled {
     pub answer: Answer,
     pub state: State,
 }
 
 // What the call for a slot's summary gives back. The summary is empty where the call is refused.
-#[derive(Drop)]
+#[derive(Clone, Copy)]
 pub struct Summarised {
     pub number: u8,
     pub summary: Summary,

@@ -9,7 +9,7 @@ use run::{Phase, Tick};
 use store::{Store, checks};
 
 // What a poll leaves: its answer, and what changes of the state.
-#[derive(Drop)]
+#[derive(Clone, Copy)]
 pub struct Left {
     pub answer: Answer,
     pub store: Store,

@@ -1,5 +1,7 @@
 // A region painted dot by dot, as uploads did before whole bytes were written. It is kept to be timed and compared from C beside
 // `picture::paint_region`, and no crate of the driver stands on it.
+#![tactic(auto)]
+
 ghost use Rattle.std.specs.Prelude.{◌≡◌, ◌+◌, ◌*◌, ◌<◌, ◌≤◌, true, length};
 ghost use Rattle.lists.specs.Rules.{first_of};
 ghost use Rattle.panel.specs.Dots.{dot};

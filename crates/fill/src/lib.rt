@@ -1,5 +1,7 @@
 // Bitmap files that come in chunks: what is kept of one, and what its bytes do to it and to the slot that it fills. A picture has h rows
 // of b bytes; in a file they are s bytes apart.
+#![tactic(auto)]
+
 ghost use Rattle.std.specs.Prelude.{◌≡◌, ℕ, ◌+◌, ◌*◌, ◌<◌, ◌≤◌, min, length, take};
 ghost use Rattle.bitmap.specs.Header.{header_length, file_length};
 ghost use Rattle.fill.specs.Fills.{fill_with, none_kept, begun_fill, empty_fill, rows_come, kept_count};
@@ -10,7 +12,7 @@ use bitmap::Palette;
 
 // A bitmap file on its way into a slot: the slot (0: none is being filled), how many bytes came, the palette once the header has come
 // whole, and the bytes of the header or row that has not; after these there is 0.
-#[derive(Drop)]
+#[derive(Clone, Copy)]
 pub struct Fill {
     pub slot: u32,
     pub came: usize,

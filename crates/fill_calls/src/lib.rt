@@ -1,5 +1,7 @@
 // The calls on a bitmap file that comes in chunks: a chunk of it, its end, and giving it up. A picture has h rows of b bytes; in a file
 // they are s bytes apart.
+#![tactic(auto)]
+
 ghost use Rattle.std.specs.Prelude.{◌≡◌, ◌*◌, ◌<◌, ◌≤◌, ◌++◌, length, take};
 ghost use Rattle.bitmap_prefix.specs.Begins.{header_begins};
 ghost use Rattle.fill_calls.specs.Calls.{goes_on, ended, feeding, finishing, cancelling};
@@ -7,7 +9,7 @@ ghost use Rattle.fill_calls.specs.Calls.{goes_on, ended, feeding, finishing, can
 use fill::Fill;
 
 // What a call gives back: its number, and the fill for the next call.
-#[derive(Drop)]
+#[derive(Clone, Copy)]
 pub struct Fed {
     pub number: u8,
     pub fill: Fill,

@@ -1,4 +1,6 @@
 // Whether a fill keeps the conditions. A picture has h rows of b bytes; in a file they are s bytes apart.
+#![tactic(auto)]
+
 ghost use Rattle.std.specs.Prelude.{◌≡◌, ◌<◌, ◌≤◌, not, ◌||◌, eqb, length, take, drop};
 ghost use Rattle.bitmap_prefix.specs.Begins.{header_begins};
 ghost use Rattle.fill.specs.Conditions.{all_zero, header_rule, fill_valid};

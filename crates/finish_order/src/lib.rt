@@ -1,4 +1,6 @@
 // The order of an update of the 5.81" and 7.41" panels: the step at each place, for the code that gives it out.
+#![tactic(auto)]
+
 ghost use Rattle.std.specs.Prelude.{◌≡◌, ℕ, ◌+◌, ◌*◌, ◌%◌, ◌≤◌, ◌<◌, List, length};
 ghost use Rattle.finish_order.specs.Order.{otp_byte, stage, things_of};
 ghost use Rattle.finish_order.specs.Facts.{StandsFor, before_start, after_start, from_start};
@@ -6,7 +8,7 @@ ghost use Rattle.finish_order.specs.Facts.{StandsFor, before_start, after_start,
 // A thing of an update, small enough to stand in a table. A write has its register first, then where its data comes from: one byte
 // or two; the n bytes of the OTP memory from an index on; DCTL and 0; the temperature's index; the new picture; or what goes to the
 // second frame.
-#[derive(Drop)]
+#[derive(Clone, Copy)]
 pub enum Step {
     Byte(u8, u8),
     Pair(u8, u8, u8),

@@ -1,4 +1,6 @@
 // Updates of the 5.81" and 7.41" panels: each call gives out the one thing that comes after those given so far.
+#![tactic(auto)]
+
 ghost use Rattle.std.specs.Prelude.{◌≡◌, ◌+◌, ◌≤◌, true, [], length, replicate};
 ghost use Rattle.finish_order.specs.Order.{write, otp_bytes, things_of, thing_at};
 ghost use Rattle.finish_order.specs.Facts.{thing_of, step_within};
@@ -9,7 +11,7 @@ use finish_order::Step;
 
 // What a call answers: the number of a refusal; a write, with the length put out; a wait in ms; that the host must see BUSY high
 // before it goes on; or that nothing is left.
-#[derive(Drop)]
+#[derive(Clone, Copy)]
 pub enum Answer {
     Refused(u8),
     Write(u16),

@@ -1,4 +1,6 @@
 // What an update of the 5.81" and 7.41" panels is refused for, and the index of a temperature.
+#![tactic(auto)]
+
 ghost use Rattle.std.specs.Prelude.{◌≡◌, ◌≤◌, true, length};
 ghost use Rattle.lists.specs.Rules.{first_of};
 ghost use Rattle.finish_rules.specs.Rules.{

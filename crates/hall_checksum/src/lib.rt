@@ -1,4 +1,6 @@
 // The checksum of the hall display's document: as it is printed there, and on a table.
+#![tactic(auto)]
+
 ghost use Rattle.std.specs.Prelude.{◌≡◌};
 ghost use Rattle.hall_checksum.specs.Checksum.{crc16_add, checksum_from, crc_table, table_add, table_add_two, table_checksum};
 

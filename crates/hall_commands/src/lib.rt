@@ -1,17 +1,19 @@
 // The hall display's upload commands, read back into a slot.
+#![tactic(auto)]
+
 ghost use Rattle.std.specs.Prelude.{◌≡◌, ◌≤◌, length, take};
 ghost use Rattle.lists.specs.Rules.{every, first_of};
 ghost use Rattle.hall_commands.specs.Reading.{reader_at, upload_tests, is_upload, read_cases, reading};
 
 // A reader of one slot, with its data pointer.
-#[derive(Drop)]
+#[derive(Clone, Copy)]
 pub struct Reader {
     pub slot: u32,
     pub at: usize,
 }
 
 // What reading a command gives back: a number, and the next reader.
-#[derive(Drop)]
+#[derive(Clone, Copy)]
 pub struct Reply {
     pub number: u8,
     pub reader: Reader,

@@ -1,4 +1,6 @@
 // The big hall display: the header and the upload commands of an image.
+#![tactic(auto)]
+
 ghost use Rattle.std.specs.Prelude.{◌≡◌, ◌+◌, ◌-◌, ◌*◌, ◌≤◌, ◌<◌, min, length};
 ghost use Rattle.lists.specs.Lists.{overlay_at};
 ghost use Rattle.lists.specs.Rules.{first_of};
@@ -9,7 +11,7 @@ ghost use Rattle.hall_display.specs.Upload.{make_header, upload_cases, upload_by
 // ---- panels and header
 
 // A header by value: the number of the refusal, or 0 and its bytes.
-#[derive(Drop)]
+#[derive(Clone, Copy)]
 pub struct Header {
     pub number: u8,
     pub bytes: [u8; 16],
@@ -107,7 +109,7 @@ pub fn make_header(panel: u32, depth: u32) -> Header
 // ---- the upload
 
 // What the call for a command answers: the number of a refusal; the command's length; or that there is none, past the last.
-#[derive(Drop)]
+#[derive(Clone, Copy)]
 pub enum Answer {
     Refused(u8),
     Command(u8),

@@ -1,4 +1,6 @@
 // Layouts: the places of the leaves of a list of boxes on a panel.
+#![tactic(auto)]
+
 ghost use Rattle.std.specs.Prelude.{◌≡◌, ◌+◌, ◌*◌, ◌/◌, ◌%◌, ◌≤◌, ◌<◌, true, [], length};
 ghost use Rattle.layout_rules.specs.Boxes.{child_count, next_box, list_good};
 ghost use Rattle.layout.specs.Places.{
@@ -25,7 +27,7 @@ ghost use Rattle.layout.specs.Facts.{
 };
 
 // A rectangle of the panel, in dots.
-#[derive(Drop)]
+#[derive(Clone, Copy)]
 pub struct Rect {
     pub x: u32,
     pub y: u32,
@@ -34,7 +36,7 @@ pub struct Rect {
 }
 
 // The answer: 0 or the number of a refusal, and the leaves, which are the first `count` rectangles.
-#[derive(Drop)]
+#[derive(Clone, Copy)]
 pub struct Leaves {
     pub number: u8,
     pub count: usize,
@@ -44,14 +46,14 @@ pub struct Leaves {
 // ---- the places
 
 // A chart of the boxes: where each stands, by its number, as far as they are placed, and whether one of them lies too deep.
-#[derive(Drop)]
+#[derive(Clone, Copy)]
 struct Chart {
     deep: bool,
     rects: [Rect; 64],
 }
 
 // A child: its number, the weights before its own, its own, and all weights of its box.
-#[derive(Drop)]
+#[derive(Clone, Copy)]
 struct Share {
     child: usize,
     low: u32,

@@ -1,4 +1,6 @@
 // Reads a panel's code and a layout's list on standard input, and writes a line for each leaf on standard output.
+#![tactic(auto)]
+
 ghost use Rattle.std.specs.Prelude.{◌≡◌, ◌+◌, ◌≤◌, ◌<◌, ◌++◌, length, take};
 ghost use Rattle.listing.specs.Text.{decimal};
 ghost use Rattle.listing.specs.Appended.{Appended};

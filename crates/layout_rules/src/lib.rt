@@ -1,4 +1,6 @@
 // Layouts: the check of a list of boxes.
+#![tactic(auto)]
+
 ghost use Rattle.std.specs.Prelude.{◌≡◌, ◌-◌, ◌≤◌, ◌<◌, eqb, length};
 ghost use Rattle.lists.specs.Rules.{all_below};
 ghost use Rattle.layout_rules.specs.Boxes.{

@@ -1,4 +1,6 @@
 // A settings file as text.
+#![tactic(auto)]
+
 ghost use Rattle.std.specs.Prelude.{◌≡◌, ◌+◌, ◌*◌, ◌%◌, ◌<◌, ◌≤◌, ◌++◌, length, drop};
 ghost use Rattle.settings.specs.Settings.{write, step_of, steps_of};
 ghost use Rattle.listing.specs.Text.{ascii, digit, hex_byte, decimal, spaced_bytes, newline};
@@ -185,7 +187,7 @@ fn put_file(out: &mut [u8], file: &[u8], plan: Plan) -> usize
 }
 
 // A listing: the first `len` bytes of `text`.
-#[derive(Drop)]
+#[derive(Clone, Copy)]
 pub struct Listing {
     pub text: [u8; 2145],
     pub len: usize,

@@ -1,4 +1,6 @@
 // What every crate uses: a byte as a number, and the copy loops. What a byte list is after each of these is `overlay_at` of specs/Lists.antt.
+#![tactic(auto)]
+
 ghost use Rattle.std.specs.Prelude.{◌≡◌, ◌+◌, ◌≤◌, ◌<◌, length, replicate};
 ghost use Rattle.lists.specs.Lists.{overlay_at};
 

@@ -1,4 +1,6 @@
 // Mends damaged bitmap files and lists what was changed. A picture has h rows of b bytes; in a file they are s bytes apart.
+#![tactic(auto)]
+
 ghost use Rattle.std.specs.Prelude.{◌≡◌, ◌+◌, ◌*◌, ◌<◌, ◌≤◌, map, length};
 ghost use Rattle.lists.specs.Lists.{tabulate, overlay, overlay_at};
 ghost use Rattle.lists.specs.Rules.{every};
@@ -20,7 +22,7 @@ use bitmap::{Field, Palette};
 
 // What mending answers: the number of the refusal, or 0 with how many bytes were changed, and the offset and the count of the
 // bytes that were added, 0 and 0 where none were.
-#[derive(Drop)]
+#[derive(Clone, Copy)]
 pub struct Mended {
     pub number: u8,
     pub changes: usize,

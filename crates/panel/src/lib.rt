@@ -1,4 +1,6 @@
 // The tables of the panels, each looked up by number.
+#![tactic(auto)]
+
 ghost use Rattle.std.specs.Prelude.{◌≡◌, ◌-◌, ◌≤◌, ◌<◌};
 ghost use Rattle.panel.specs.Panels.{
   is_panel,
@@ -44,7 +46,7 @@ pub fn is_panel(code: u32) -> bool
 }
 
 // The sizes of a panel: the bytes of a row, the rows, the bytes from one row of a bitmap file to the next, and the frames per stage.
-#[derive(Drop)]
+#[derive(Clone, Copy)]
 pub struct Shape {
     pub bytes: usize,
     pub rows: usize,

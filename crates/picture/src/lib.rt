@@ -1,4 +1,6 @@
 // Painting on the slots of the lent memory. A slot has h rows of b bytes.
+#![tactic(auto)]
+
 ghost use Rattle.std.specs.Prelude.{◌≡◌, ◌+◌, ◌-◌, ◌*◌, ◌/◌, ◌%◌, ◌<◌, ◌≤◌, true, map, leb, length, take, drop};
 ghost use Rattle.lists.specs.Lists.{overlay_at};
 ghost use Rattle.lists.specs.Rules.{all_below, first_of};

@@ -1,4 +1,6 @@
 // A poll of a run under way: a wait answer, or the one thing that is handed out.
+#![tactic(auto)]
+
 ghost use Rattle.std.specs.Prelude.{◌≡◌, ℕ, ◌+◌, ◌*◌, ◌≤◌, ◌<◌, List, length, take, drop};
 ghost use Rattle.lists.specs.Lists.{overlay_at};
 ghost use Rattle.settings.specs.Settings.{row_bytes_in, step_of, start_count, start_steps, stop_count, stop_steps, rows_in};
@@ -16,7 +18,7 @@ use settings::{Kind, Plan};
 
 // What a poll answers: the number of a refusal; a register write or a line, with the length put out; the ms still to go; or that
 // the run is over.
-#[derive(Drop)]
+#[derive(Clone, Copy)]
 pub enum Answer {
     Refused(u8),
     Write(usize),
@@ -26,7 +28,7 @@ pub enum Answer {
 }
 
 // What a poll of a run leaves besides the lent bytes.
-#[derive(Drop)]
+#[derive(Clone, Copy)]
 pub struct Handed {
     pub answer: Answer,
     pub phase: Phase,

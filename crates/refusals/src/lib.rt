@@ -1,4 +1,6 @@
 // The numbers of the calls, case by case: `before` is the number given so far, and 0 where there is none.
+#![tactic(auto)]
+
 ghost use Rattle.std.specs.Prelude.{◌≡◌, cond, eqb};
 ghost use Rattle.lists.specs.Rules.{first_of};
 ghost use Rattle.panel.specs.Facts.{Sized};

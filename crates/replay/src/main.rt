@@ -1,4 +1,6 @@
 // Replays a script of calls on one store: a call on each line of standard input, its answer on a line of standard output.
+#![tactic(auto)]
+
 mod script;
 
 ghost use Rattle.std.specs.Prelude.{◌≡◌, ◌≤◌, length};

@@ -11,14 +11,14 @@ const POLLED: usize = 117;
 const NOWHERE: usize = usize::MAX;
 
 // A number, and the index after its word.
-#[derive(Drop)]
+#[derive(Clone, Copy)]
 struct Number {
     value: u32,
     next: usize,
 }
 
 // A length, of memory or of the bytes that a word stands for, and the index after its word.
-#[derive(Drop)]
+#[derive(Clone, Copy)]
 struct Extent {
     value: usize,
     next: usize,

@@ -1,4 +1,6 @@
 // A run: its clock, its place, and when the next thing is due.
+#![tactic(auto)]
+
 ghost use Rattle.std.specs.Prelude.{◌≡◌, ◌+◌, ◌-◌, ◌*◌, ◌^◌, ◌<◌, ◌≤◌, drop};
 ghost use Rattle.settings.specs.Settings.{steps_of};
 ghost use Rattle.settings.specs.Steps.{waits_before};
@@ -12,16 +14,16 @@ ghost use Rattle.settings.specs.Plans.{SectionIn, PlanOf};
 use settings::{Plan, Section};
 
 // A tick reading: a millisecond counter that wraps.
-#[derive(Drop)]
+#[derive(Clone, Copy)]
 pub struct Tick(pub u32);
 
 // Passed time of a run in milliseconds, which does not wrap.
-#[derive(Drop)]
+#[derive(Clone, Copy)]
 pub struct Passed(pub u64);
 
 // What is handed out next: the next write from start step k on, or after the start steps the first line; a line; or the next
 // write from stop step k on, or after the stop steps done.
-#[derive(Drop)]
+#[derive(Clone, Copy)]
 pub enum Position {
     Start(u32),
     Line { stage: u32, frame: u32, row: u32 },
@@ -29,7 +31,7 @@ pub enum Position {
 }
 
 // A run under way.
-#[derive(Drop)]
+#[derive(Clone, Copy)]
 pub struct Run {
     // the slot that it shows
     pub slot: u32,
@@ -44,7 +46,7 @@ pub struct Run {
 }
 
 // Where a store stands: no run is under way, a run was abandoned, or one is under way.
-#[derive(Drop)]
+#[derive(Clone, Copy)]
 pub enum Phase {
     Idle,
     Abandoned,
@@ -108,7 +110,7 @@ fn step_from(last: Tick, tick: Tick) -> u32
 }
 
 // What a tick reading says: passed time, or that it is refused.
-#[derive(Drop)]
+#[derive(Clone, Copy)]
 pub enum Reading {
     At(Passed),
     Refused,

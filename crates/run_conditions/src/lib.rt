@@ -1,4 +1,6 @@
 // Whether a run keeps the conditions.
+#![tactic(auto)]
+
 ghost use Rattle.std.specs.Prelude.{◌≡◌, ◌+◌, ◌-◌, ◌≤◌, ◌<◌, cond, eqb, leb, drop};
 ghost use Rattle.settings.specs.Settings.{steps_of};
 ghost use Rattle.settings.specs.Plans.{SectionIn, PlanOf};

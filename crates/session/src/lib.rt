@@ -1,4 +1,6 @@
 // A store under a script: makes the call that a line asks for, on the memory that the script lends, and puts its answer as text.
+#![tactic(auto)]
+
 ghost use Rattle.std.specs.Prelude.{◌≡◌, length};
 ghost use Rattle.io.specs.Counts.{IsPrefixLen};
 
@@ -15,7 +17,7 @@ pub const MEMORY: usize = 46464;
 pub const OUTPUT: usize = 6398;
 
 // What a region upload names.
-#[derive(Drop)]
+#[derive(Clone, Copy)]
 pub struct Region {
     pub slot: u32,
     pub x: u32,
@@ -25,7 +27,7 @@ pub struct Region {
 }
 
 // A line of a script. `size` is the length of the bytes that its HEX stands for, which are kept beside it.
-#[derive(Drop)]
+#[derive(Clone, Copy)]
 pub enum Command {
     Open { n: u32, size: usize },
     OpenLent { n: u32, size: usize, lent: usize },
@@ -45,7 +47,7 @@ pub enum Command {
 }
 
 // What is kept from one line to the next, besides the memory that calls are lent.
-#[derive(Drop)]
+#[derive(Clone, Copy)]
 pub struct Session {
     pub state: State,
     // how many bytes of the memory a call is lent

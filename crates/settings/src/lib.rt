@@ -1,4 +1,6 @@
 // The settings file: the check of its rules, and the reading of its steps.
+#![tactic(auto)]
+
 ghost use Rattle.std.specs.Prelude.{◌≡◌, false, ◌+◌, ◌-◌, ◌*◌, ◌≤◌, ◌<◌, length, get_or, drop};
 ghost use Rattle.lists.specs.Rules.{every};
 ghost use Rattle.panel.specs.Registers.{data_length};
@@ -35,7 +37,7 @@ ghost use Rattle.settings.specs.Facts.{
 use panel::Shape;
 
 // What stands at a place of the file: a write of a register, a wait in ms, or no step.
-#[derive(Drop)]
+#[derive(Clone, Copy)]
 pub enum Kind {
     Write(u8),
     Wait(u16),
@@ -158,7 +160,7 @@ fn mark(written: &mut [bool; 10], file: &[u8], at: usize)
 }
 
 // Whether steps were passed, the index after them, and whether they write the channels (0x01) and the level (0x04).
-#[derive(Drop)]
+#[derive(Clone, Copy)]
 pub struct StepsEnd {
     pub ok: bool,
     pub end: usize,
@@ -222,7 +224,7 @@ fn panel_of(file: &[u8]) -> usize
 }
 
 // Whether a file keeps the rules that were asked of it, and the index of its stop section.
-#[derive(Drop)]
+#[derive(Clone, Copy)]
 struct Layout {
     ok: bool,
     stop: usize,
@@ -316,7 +318,7 @@ pub fn check_settings(file: &[u8]) -> u8
 // ---- an accepted file, kept by value
 
 // The bytes of the file stand at the front, and `len` is how many.
-#[derive(Drop)]
+#[derive(Clone, Copy)]
 pub struct Settings {
     pub file: [u8; 637],
     pub len: usize,
@@ -347,14 +349,14 @@ pub fn keep(file: &[u8]) -> Settings
 // ---- what a call reads from an accepted file
 
 // A section of steps: the index at which they begin, and how many there are.
-#[derive(Drop)]
+#[derive(Clone, Copy)]
 pub struct Section {
     pub at: usize,
     pub count: usize,
 }
 
 // The panel, its sizes, and the sections.
-#[derive(Drop)]
+#[derive(Clone, Copy)]
 pub struct Plan {
     pub panel: usize,
     pub shape: Shape,
@@ -363,7 +365,7 @@ pub struct Plan {
 }
 
 // Whether a file is accepted, and its plan where it is.
-#[derive(Drop)]
+#[derive(Clone, Copy)]
 pub struct Planned {
     pub ok: bool,
     pub plan: Plan,
@@ -434,7 +436,7 @@ pub fn data_of(file: &[u8], panel: usize, at: usize, register: u8) -> &[u8]
 }
 
 // The next write among some steps: the ms of the waits before it, its index in the file, and the steps left from it on.
-#[derive(Drop)]
+#[derive(Clone, Copy)]
 pub struct NextWrite {
     pub waits: u32,
     pub at: usize,

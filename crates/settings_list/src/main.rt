@@ -1,4 +1,6 @@
 // Reads a settings file on standard input and lists it on standard output.
+#![tactic(auto)]
+
 use libc::{STDIN_FILENO, STDOUT_FILENO};
 
 fn main() {

@@ -1,4 +1,6 @@
 // The slots of the lent memory: how many bytes they take, and what the calls on the store do to one of them.
+#![tactic(auto)]
+
 ghost use Rattle.std.specs.Prelude.{◌≡◌, ◌*◌, ◌≤◌, length};
 ghost use Rattle.panel.specs.Facts.{Sized};
 ghost use Rattle.bitmap.specs.Header.{file_length};

@@ -1,4 +1,6 @@
 // The calls for firmware in C: include/start_board.h declares them. Each promises what the function that it calls does.
+#![tactic(auto)]
+
 ghost use Rattle.std.specs.Prelude.{◌≡◌};
 ghost use Rattle.wire.specs.Builder.{build_line};
 ghost use Rattle.settings.specs.Settings.{check_settings};

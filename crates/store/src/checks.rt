@@ -20,7 +20,7 @@ use run::Phase;
 use settings::{Plan, Planned};
 
 // The number of a refusal; or 0, and the plan of the settings file.
-#[derive(Drop)]
+#[derive(Clone, Copy)]
 pub struct Checked {
     pub number: u8,
     pub plan: Plan,

@@ -1,4 +1,6 @@
 // What a state keeps of its store, and the conditions that a state keeps; docs/STATE.md says them in words.
+#![tactic(auto)]
+
 ghost use Rattle.std.specs.Prelude.{◌≡◌};
 ghost use Rattle.store.specs.Store.{new_store, set_phase, set_fill, set_summaries};
 
@@ -10,7 +12,7 @@ use summary::Summary;
 
 // What changes from call to call: the number n of the last slot, where the store stands, the bitmap file that comes in chunks, and the
 // summaries of slots 0 to n, in eight places.
-#[derive(Drop)]
+#[derive(Clone, Copy)]
 pub struct Store {
     pub slots: u32,
     pub phase: Phase,

@@ -1,4 +1,6 @@
 // The summary of a slot: how many dots are black, and the first and last row with one. A slot has h rows of b bytes.
+#![tactic(auto)]
+
 ghost use Rattle.std.specs.Prelude.{◌≡◌, ◌+◌, ◌*◌, ◌≤◌, eqb, length, get_or, set, replicate};
 ghost use Rattle.picture.specs.Slots.{picture_of, slot_picture};
 ghost use Rattle.summary.specs.Summaries.{summary_of, empty_summary};
@@ -6,21 +8,21 @@ ghost use Rattle.summary.specs.Facts.{black_in_byte, black_from, first_black, la
 ghost use Rattle.summary.specs.declared.Found.TheVariants.{At};
 
 // What a scan for a row finds.
-#[derive(Drop)]
+#[derive(Clone, Copy)]
 enum Found {
     At(usize),
     Nothing,
 }
 
 // The first and the last row with a black dot, or none.
-#[derive(Drop)]
+#[derive(Clone, Copy)]
 pub enum Span {
     Blank,
     Rows { first: u32, last: u32 },
 }
 
 // What is kept beside a slot: the number of its black dots, and where they are.
-#[derive(Drop)]
+#[derive(Clone, Copy)]
 pub struct Summary {
     pub black: u32,
     pub span: Span,

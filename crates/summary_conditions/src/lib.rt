@@ -1,4 +1,6 @@
 // Whether summaries keep the conditions. A slot has h rows of b bytes.
+#![tactic(auto)]
+
 ghost use Rattle.std.specs.Prelude.{◌≡◌, ◌≤◌};
 ghost use Rattle.summary.specs.Conditions.{span_good, summary_good, summaries_good};
 

@@ -1,6 +1,8 @@
 // How a start clock shows a bib: the loop of its firmware, and uploads and fills before it, on a store of slots 0 and 1. The bus and
 // the clock are simulated: what would go to the panel stands in `bus`, one thing after another, and a wait moves the tick on. Exported
 // for C, where it is timed and compared.
+#![tactic(auto)]
+
 ghost use Rattle.std.specs.Prelude.{◌≡◌, ◌≤◌, length};
 ghost use Rattle.board.specs.Calls.{opening};
 ghost use Rattle.update_loop.specs.Loop.{

@@ -1,4 +1,6 @@
 // Register writes and lines, as bytes on the wire.
+#![tactic(auto)]
+
 ghost use Rattle.std.specs.Prelude.{◌≡◌, ◌+◌, ◌*◌, ◌/◌, ◌%◌, ◌^◌, ◌≤◌, ◌<◌, cond, [], ◌∷◌, eqb, length};
 ghost use Rattle.lists.specs.Lists.{tabulate, overlay, overlay_at};
 ghost use Rattle.panel.specs.Codes.{code_by};

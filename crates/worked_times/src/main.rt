@@ -1,5 +1,7 @@
 // Runs the worked examples of document 01 that are about the time of a run, all with its example file and F at tick 4294967290, and prints
 // a line for each.
+#![tactic(auto)]
+
 use board::State;
 use poll::Answer;
 use run::Tick;
@@ -32,7 +34,7 @@ fn started(memory: &mut [u8]) -> State {
 }
 
 // What some polls leave: the state, and how many of them handed out what was asked for.
-#[derive(Drop)]
+#[derive(Clone, Copy)]
 struct Batch {
     state: State,
     count: u32,
@@ -148,7 +150,7 @@ fn poll_frame_2(memory: &mut [u8], out: &mut [u8]) {
 // ---- whole runs
 
 // A run that is polled as soon as something is due: its tick, how many lines went out, and whether done came.
-#[derive(Drop)]
+#[derive(Clone, Copy)]
 struct Drive {
     state: State,
     tick: u32,
