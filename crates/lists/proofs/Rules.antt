@@ -124,6 +124,7 @@ pub data None : List Case → Type 0 where
   past : {t : Bool} {m : ℕ} {cs : List Case} → t ≡ false → None cs → None (case t m ∷ cs)
 
 pub given : {A : Type 0} (cs : List Case) {n : ℕ} (refused : ℕ → A) (accepted : A) → First cs n → first_of cs refused accepted ≡ refused n
+given [] refused accepted first = elim first [ ]
 given (case t n ∷ cs) refused accepted (here e) = rw e
 given (case t m ∷ cs) refused accepted (past e rest) = rw e (given cs refused accepted rest)
 

@@ -183,7 +183,8 @@ valid_kept state memory call e = stays_valid state memory (was_valid state memor
 pub all_valid : (state : State) → state_valid state ≡ true → (memory : List ℕ) (calls : List Call)
     → state_valid (state_after state memory calls) ≡ true
 all_valid state valid memory [] = valid
-all_valid state valid memory (call ∷ calls) = all_valid _ (stays_valid state memory valid call) (call_on state memory call).memory calls
+all_valid state valid memory (call ∷ calls) =
+    all_valid (call_on state memory call).state (stays_valid state memory valid call) (call_on state memory call).memory calls
 
 -- ---- opening
 

@@ -123,7 +123,8 @@ module _ (file : List ℕ) (n₁ : ℕ) where
   all_fresh : (state : State) (memory : List ℕ) (calls : List Call) → Fresh file n₁ state memory
       → Fresh file n₁ (state_after state memory calls) (memory_after state memory calls)
   all_fresh state memory [] f = f
-  all_fresh state memory (call ∷ calls) f = all_fresh _ _ calls (one_fresh state memory call f)
+  all_fresh state memory (call ∷ calls) f =
+      all_fresh (call_on state memory call).state (call_on state memory call).memory calls (one_fresh state memory call f)
 
   -- what the call for a summary gives
   summarises : (state : State) (memory : List ℕ) → state_valid state ≡ true → Fresh file n₁ state memory
