@@ -1,0 +1,6 @@
+-- `opened_state`: the file is kept, and the store is new. Assumes nothing.
+use borrow.Author.Rules.{rules}
+use Rattle.board.proofs.opened_state.Goals as goal
+
+pub returns : goal.returns
+returns c = rw (c.keep.ensures, c.new_store.ensures)

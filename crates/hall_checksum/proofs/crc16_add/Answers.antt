@@ -1,0 +1,8 @@
+-- The code cuts the shifts to 16 bits, the definition each assignment.
+-- Assumes nothing.
+use native.Mathlib.Omega.{arith}
+use Rattle.hall_checksum.proofs.Crc.{code_right}
+use Rattle.hall_checksum.proofs.crc16_add.Goals as goal
+
+pub returns : goal.returns
+returns c = code_right c.args.byte c.args (omega arith) (omega arith)

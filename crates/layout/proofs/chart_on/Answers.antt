@@ -1,0 +1,29 @@
+-- The first box has six levels remaining, its own among them.
+-- Assumes nothing.
+use mathlib.Core.Path.{refl}
+use Rattle.layout_rules.proofs.Boxes.{good_some}
+use Rattle.layout.proofs.Places.{levels_first}
+use Rattle.layout.proofs.Layouts.{all_placed_from}
+use borrow.Author.Rules.{rules}
+use native.Mathlib.Omega.{arith}
+use Rattle.layout.proofs.chart_on.Goals as goal
+
+pub row_layout-requires : goal.row_layout-requires
+row_layout-requires c =
+    let list = c.args.list.now in
+    let q = c.requires in (
+      record {
+        good = q.0;
+        box = good_some list q.0;
+        level = omega (arith, levels_first list);
+        inside = record { across = omega (arith, q.1); down = omega (arith, q.2) };
+        whole = rw c.empty_chart.ensures refl;
+      },
+      refl,
+    )
+
+pub returns : goal.returns
+returns c =
+    let a = c.args in
+    all_placed_from a.list.now c.requires.0 a.width a.height _ refl c.row_layout.result
+    (rw (← c.empty_chart.ensures) c.row_layout.ensures)

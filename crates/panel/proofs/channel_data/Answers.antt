@@ -1,0 +1,8 @@
+use mathlib.Core.Path.{refl}
+use Rattle.panel.specs.Registers.{channel_data}
+use borrow.Author.Rules.{rules}
+use Rattle.panel.proofs.channel_data.Goals as goal
+
+pub returns : goal.returns
+unfolding channel_data
+returns c = refl

@@ -1,0 +1,11 @@
+-- `frame_before` meets its contract. Assumes nothing.
+use native.Mathlib.Nat.{sub-zero}
+use borrow.Author.Tests.{eq-eqb, ne_eqb}
+use borrow.Author.Rules.{rules}
+use Rattle.run_conditions.proofs.frame_before.Goals as goal
+
+pub returns-then-number-eq0 : goal.returns-then-number-eq0
+returns-then-number-eq0 c = rw (eq-eqb c.args.number 0 c.if-number-eq0.true)
+
+pub returns : goal.returns
+returns c = rw (ne_eqb c.args.number 0 c.if-number-eq0.false, sub-zero)
