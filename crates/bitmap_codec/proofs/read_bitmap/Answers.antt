@@ -37,16 +37,16 @@ put_dots-requires c =
 pub loop-y-preserved : goal.loop-y-preserved
 loop-y-preserved c =
     let c₁ = c in
-    let l = c₁.before.loop in
-    let p = c₁.before in
+    let l = c₁.loop-y in
+    let p = c₁ in
     let known = p in
     let s = known in
     let a = s.args in
-    let put = rw p.palette-of.ensures at c.put_dots.ensures in
-    let rows = rows_picture a.b a.h s.requires.0 a.raw.now (s.requires.5, λ k. (known.slice-known.given k).fits) in (
+    let put = rw p.palette_of-palette.ensures at c.put_dots.ensures in
+    let rows = rows_picture a.b a.h s.requires.0 a.raw.now (s.requires.5, λ k. (known.type_inv.raw k).fits) in (
       omega arith,
       search rules,
-      read_next_lem a.b a.h a.s s.requires.0 s.requires.2 a.file.now (λ k. (known.shared-slice-known.given k).fits)
+      read_next_lem a.b a.h a.s s.requires.0 s.requires.2 a.file.now (λ k. (known.type_inv.file k).fits)
           (picture_of a.b a.h a.raw.now) rows s.requires.6 l.y c₁.loop-y-test.true l.invariant.2 put,
     )
 

@@ -14,11 +14,11 @@ pub returns : goal.returns
 unfolding written_file
 returns c =
     let c₂ = c in
-    let c₁ = c₂.before in
-    let a = c₁.before.args in
+    let c₁ = c₂ in
+    let a = c₁.args in
     let rows = file_rows a.b a.h a.s (picture_of a.b a.h a.raw.now) in
     let l = length-header a.b a.h a.s in (
       c.file_length.ensures,
-      part_next 0 a.out.now (header a.b a.h a.s) rows header_length c₁.write-header.ensures c₂.write_rows.ensures
+      part_next 0 a.out.now (header a.b a.h a.s) rows header_length c₁.write_header.ensures c₂.write_rows.ensures
           (omega arith) (omega arith),
     )

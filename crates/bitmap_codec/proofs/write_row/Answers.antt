@@ -14,10 +14,10 @@ use Rattle.bitmap_codec.proofs.write_row.Goals as goal
 pub returns : goal.returns
 returns c =
     let c₁ = c in
-    let s = c₁.before in
+    let s = c₁ in
     let a = s.args in
     let picture : List ℕ = picture_of a.b a.h a.raw.now in
-    let bytes = c₁.before.shared-slice-known.given in
+    let bytes = c₁.type_inv.raw in
     let rows = rows_picture a.b a.h s.requires.0 a.raw.now (s.requires.5, λ k. (bytes k).fits) in
     let more : a.y * a.b + a.b ≤ a.h * a.b = more_rows a.y a.h a.b s.requires.4 in
     let l : length (picture_row a.b picture a.y) ≡ a.b = part_length_lem (a.y * a.b) a.b picture (omega (arith, rows.0)) in

@@ -40,10 +40,10 @@ write_row-requires c =
 pub loop-j-preserved : goal.loop-j-preserved
 loop-j-preserved c =
     let c₁ = c in
-    let l = c₁.before.loop in
-    let s = c₁.before in
+    let l = c₁.loop-j in
+    let s = c₁ in
     let a = s.args in
-    let bytes = c₁.before.shared-slice-known.given in
+    let bytes = c₁.type_inv.raw in
     let rows = rows_picture a.b a.h s.requires.0 a.raw.now (s.requires.5, λ k. (bytes k).fits) in (
       omega arith,
       search rules,

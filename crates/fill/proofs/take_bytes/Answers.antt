@@ -44,60 +44,88 @@ slice_bounds-take_rows-start c = fits c
 
 pub take_rows-rows-requires : goal.take_rows-rows-requires
 take_rows-rows-requires c =
+    let came : let q = c in c.take_piece-here.result.came ≡ q.loop-i.here.came + n q = let q = c in
+    let l = q.loop-i in
+    let a = q.args in
+    piece_counted a.b a.h a.s a.chunk.now (i q) (n q) l.here c.take_piece-here.result l.raw _ (fits q) c.take_piece-here.ensures.0 in
     let p = c in
     let q = p in
-    let l = q.loop in
+    let l = q.loop-i in
     let s = q in
     let a = s.args in
     let left = rest-length (i q + n q) a.chunk.now in
     let whole =
-    left_fits a.h a.s a.fill.came (all q) (i q) (n q) l.here.came s.requires.6 l.invariant.2 p.take_piece-here.result.came (came p)
+    left_fits a.h a.s a.fill.came (all q) (i q) (n q) l.here.came s.requires.6 l.invariant.2 p.take_piece-here.result.came came
     _ left (fits q) in
     (s.requires.0, s.requires.1, s.requires.2, s.requires.3, s.requires.4, search rules, whole)
 
 pub overflow_add-here : goal.overflow_add-here
 overflow_add-here c =
+    let came : let q = c in c.take_piece-here.result.came ≡ q.loop-i.here.came + n q = let q = c in
+    let l = q.loop-i in
+    let a = q.args in
+    piece_counted a.b a.h a.s a.chunk.now (i q) (n q) l.here c.take_piece-here.result l.raw _ (fits q) c.take_piece-here.ensures.0 in
+    let more : let q = c in i q + n q + c.take_rows-rows.result ≤ all q = let q = c in
+    let left = rest-length (i q + n q) q.args.chunk.now in
+    next_fits (all q) (i q + n q) c.take_rows-rows.result (fits q) (rw left at c.take_rows-rows.ensures.0) in
     let r = c in
     let p = r in
     let q = p in
-    let l = q.loop in
+    let l = q.loop-i in
     let s = q in
     let a = s.args in
     let small =
-    came_fits a.h a.s a.fill.came (all q) (i q) (n q) l.here.came s.requires.6 l.invariant.2 p.take-piece.result.came (came p)
-    r.take_rows-rows.result s.requires.4 s.requires.3 (more r) in
+    came_fits a.h a.s a.fill.came (all q) (i q) (n q) l.here.came s.requires.6 l.invariant.2 p.take_piece-here.result.came came
+    r.take_rows-rows.result s.requires.4 s.requires.3 more in
     omega (arith, small)
 
 pub overflow_add-i : goal.overflow_add-i
 overflow_add-i c =
+    let came : let q = c in c.take_piece-here.result.came ≡ q.loop-i.here.came + n q = let q = c in
+    let l = q.loop-i in
+    let a = q.args in
+    piece_counted a.b a.h a.s a.chunk.now (i q) (n q) l.here c.take_piece-here.result l.raw _ (fits q) c.take_piece-here.ensures.0 in
+    let more : let q = c in i q + n q + c.take_rows-rows.result ≤ all q = let q = c in
+    let left = rest-length (i q + n q) q.args.chunk.now in
+    next_fits (all q) (i q + n q) c.take_rows-rows.result (fits q) (rw left at c.take_rows-rows.ensures.0) in
     let r = c in
     let p = r in
     let q = p in
-    let l = q.loop in
+    let l = q.loop-i in
     let s = q in
     let a = s.args in
-    index_fits a.h a.s a.fill.came (all q) (i q) (n q) l.here.came s.requires.6 l.invariant.2 p.take-piece.result.came (came p)
-    r.take_rows-rows.result s.requires.4 s.requires.3 (more r)
+    index_fits a.h a.s a.fill.came (all q) (i q) (n q) l.here.came s.requires.6 l.invariant.2 p.take_piece-here.result.came came
+    r.take_rows-rows.result s.requires.4 s.requires.3 more
 
 pub loop-i-smaller : goal.loop-i-smaller
 loop-i-smaller c =
+    let more : let q = c in i q + n q + c.take_rows-rows.result ≤ all q = let q = c in
+    let left = rest-length (i q + n q) q.args.chunk.now in
+    next_fits (all q) (i q + n q) c.take_rows-rows.result (fits q) (rw left at c.take_rows-rows.ensures.0) in
     let r = c in
     let q = r in
-    less_left (all q) (i q) (n q) r.take_rows-rows.result (pos q) (more r)
+    less_left (all q) (i q) (n q) r.take_rows-rows.result (pos q) more
 
 pub loop-i-preserved : goal.loop-i-preserved
 loop-i-preserved c =
+    let came : let q = c in c.take_piece-here.result.came ≡ q.loop-i.here.came + n q = let q = c in
+    let l = q.loop-i in
+    let a = q.args in
+    piece_counted a.b a.h a.s a.chunk.now (i q) (n q) l.here c.take_piece-here.result l.raw _ (fits q) c.take_piece-here.ensures.0 in
+    let more : let q = c in i q + n q + c.take_rows-rows.result ≤ all q = let q = c in
+    let left = rest-length (i q + n q) q.args.chunk.now in
+    next_fits (all q) (i q + n q) c.take_rows-rows.result (fits q) (rw left at c.take_rows-rows.ensures.0) in
     let r = c in
     let p = r in
     let q = p in
-    let l = q.loop in
+    let l = q.loop-i in
     let s = q in
     let a = s.args in
-    let step = p.take-piece in
+    let step = p.take_piece-here in
     let rows = r.take_rows-rows in (
-      more r,
+      more,
       c.raw-in-loop-i-1.given ∙ c.raw-1.given ∙ l.invariant.1,
-      all_counted a.h a.s a.fill.came (all q) (i q) (n q) l.here.came s.requires.6 l.invariant.2 step.result.came (came p)
+      all_counted a.h a.s a.fill.came (all q) (i q) (n q) l.here.came s.requires.6 l.invariant.2 step.result.came came
           rows.result,
       rows_next a.b a.h a.s a.chunk.now (i q + n q) rows.result step.result _ _
           (λ any. none_kept_lem a.b a.h a.s l.here step.result l.raw _ _ step.ensures.0 (rows.ensures.1 any))

@@ -21,9 +21,16 @@ put_at-requires c =
 
 pub slice_bounds-header_begins-end : goal.slice_bounds-header_begins-end
 slice_bounds-header_begins-end c =
+    let put-long : length c.put_at.new.0 ≡ 62 = let p = c in
+    let a = p.args in
+    let n = p.least-n.result in
+    ap length c.put_at.ensures
+    ∙ length-overlay_at a.came a.kept (take n a.chunk.now)
+    (omega (arith, slice-aggregate-put-at p, slice-aggregate-put-at-2 p, p.least-n.ensures))
+    ∙ sym (slice-aggregate-put-at p) in
     let a = c.args in
     sym (length-take-le _ c.put_at.new.0
-    (omega (arith, put-long c, c.least-n.ensures)))
+    (omega (arith, put-long, c.least-n.ensures)))
 
 pub returns : goal.returns
 returns c =

@@ -1,5 +1,6 @@
 -- A refused test is one of the list; past the others the last decides.
 -- Assumes nothing.
+use mathlib.Core.Bool.{not}
 use mathlib.Core.Path.{refl, sym, ap, ◌∙◌}
 use Prim.Native.Nat.{ℕ}
 use native.Mathlib.Omega.{arith}
@@ -16,7 +17,7 @@ pub returns-then-not-slot_valid : goal.returns-then-not-slot_valid
 unfolding fill_valid
 returns-then-not-slot_valid c =
     let a = c.args in
-    sym (broken 0 (fill_rules a.b a.h a.s a.fill) (refused c.slot_valid.ensures c.if-not-slot_valid.true))
+    sym (broken 0 (fill_rules a.b a.h a.s a.fill) (refused c.slot_valid.ensures (ap not c.if-not-slot_valid.true)))
 
 pub returns-then-file_length-came : goal.returns-then-file_length-came
 unfolding fill_valid
@@ -35,7 +36,7 @@ unfolding fill_valid
 returns-then-not-zero_from c =
     let a = c.args in
     let count = ap (λ (k : ℕ). all_zero (drop k a.fill.kept)) (sym c.kept_count.ensures.0) in
-    sym (broken 3 (fill_rules a.b a.h a.s a.fill) (count ∙ refused c.zero_from.ensures c.if-not-zero_from.true))
+    sym (broken 3 (fill_rules a.b a.h a.s a.fill) (count ∙ refused c.zero_from.ensures (ap not c.if-not-zero_from.true)))
 
 pub returns : goal.returns
 unfolding fill_valid
@@ -45,7 +46,7 @@ returns c =
     let few = le-leb a.fill.came (file_length a.h a.s)
     (omega (arith, c.file_length.ensures)) in
     let room = eq-eqb (length a.fill.kept) header_length (sym (slice-aggregate-zero-from c)) in
-    let zeros = count ∙ passed c.zero_from.ensures c.if-not-zero_from.false in
+    let zeros = count ∙ passed c.zero_from.ensures (ap not c.if-not-zero_from.false) in
     let kept = keep (passed c.slot_valid.ensures
-    c.if-not-slot_valid.false) (keep few (keep room (keep zeros (keep refl none)))) in
+    (ap not c.if-not-slot_valid.false)) (keep few (keep room (keep zeros (keep refl none)))) in
     c.header_valid.ensures ∙ sym (decides 4 (fill_rules a.b a.h a.s a.fill) kept)

@@ -14,7 +14,13 @@ pub overflow_cast-result-2 : goal.overflow_cast-result-2
 overflow_cast-result-2 c = omega (arith, c.type_inv.otp (c.args.at + 2))
 
 pub overflow_mul-result : goal.overflow_mul-result
-overflow_mul-result c = omega (arith, small c)
+overflow_mul-result c =
+    let small : let a = c.args in a.turn * otp_byte a.otp.now (a.at + 2) ≤ 127 * 255 = let v : otp_byte c.args.otp.now (c.args.at + 2) ≤ 255 = omega (arith, c.type_inv.otp (c.args.at + 2)) in
+    mul-le-mul c.requires.1 v in
+    omega (arith, small)
 
 pub overflow_add-result-2 : goal.overflow_add-result-2
-overflow_add-result-2 c = omega (arith, small c, c.type_inv.otp c.args.at)
+overflow_add-result-2 c =
+    let small : let a = c.args in a.turn * otp_byte a.otp.now (a.at + 2) ≤ 127 * 255 = let v : otp_byte c.args.otp.now (c.args.at + 2) ≤ 255 = omega (arith, c.type_inv.otp (c.args.at + 2)) in
+    mul-le-mul c.requires.1 v in
+    omega (arith, small, c.type_inv.otp c.args.at)

@@ -19,18 +19,63 @@ use Rattle.finish_panel.proofs.normal_update.Goals as goal
 
 pub returns-then-number-ne0 : goal.returns-then-number-ne0
 unfolding normal_update
-returns-then-number-ne0 c = refuse (thing c) _ (cases c) (number c) c.if-number-ne0.true
+returns-then-number-ne0 c =
+    let handed : let t = c.args.temperature in to_z w32 (of_z w32 t) ≡ t = to_z-of_z c.ranges.temperature in
+    let number : c.refusal-number.result ≡ first_of (cases c) (λ n. n) 0 = let handed : let t = c.args.temperature in to_z w32 (of_z w32 t) ≡ t = to_z-of_z c.ranges.temperature in
+    rw (c.normal_good.ensures, handed) at c.refusal-number.ensures in
+    refuse (thing c) _ (cases c) number c.if-number-ne0.true
 
 pub normal_index-requires : goal.normal_index-requires
-normal_index-requires c = rw (handed c) (facts c).in_range_lem
+normal_index-requires c =
+    let handed : let t = c.args.temperature in to_z w32 (of_z w32 t) ≡ t = to_z-of_z c.ranges.temperature in
+    let number : c.refusal-number.result ≡ first_of (cases c) (λ n. n) 0 = let handed : let t = c.args.temperature in to_z w32 (of_z w32 t) ≡ t = to_z-of_z c.ranges.temperature in
+    rw (c.normal_good.ensures, handed) at c.refusal-number.ensures in
+    let free : None (cases c) = let handed : let t = c.args.temperature in to_z w32 (of_z w32 t) ≡ t = to_z-of_z c.ranges.temperature in
+    let number : c.refusal-number.result ≡ first_of (cases c) (λ n. n) 0 = let handed : let t = c.args.temperature in to_z w32 (of_z w32 t) ≡ t = to_z-of_z c.ranges.temperature in
+    rw (c.normal_good.ensures, handed) at c.refusal-number.ensures in
+    none_of (cases c) refl number c.if-number-ne0.false in
+    let facts : let a = c.args in
+    Accepted a.otp.now (normal_good a.temperature) (length a.new.now) (length a.new.now) = let handed : let t = c.args.temperature in to_z w32 (of_z w32 t) ≡ t = to_z-of_z c.ranges.temperature in
+    let number : c.refusal-number.result ≡ first_of (cases c) (λ n. n) 0 = let handed : let t = c.args.temperature in to_z w32 (of_z w32 t) ≡ t = to_z-of_z c.ranges.temperature in
+    rw (c.normal_good.ensures, handed) at c.refusal-number.ensures in
+    let free : None (cases c) = let handed : let t = c.args.temperature in to_z w32 (of_z w32 t) ≡ t = to_z-of_z c.ranges.temperature in
+    let number : c.refusal-number.result ≡ first_of (cases c) (λ n. n) 0 = let handed : let t = c.args.temperature in to_z w32 (of_z w32 t) ≡ t = to_z-of_z c.ranges.temperature in
+    rw (c.normal_good.ensures, handed) at c.refusal-number.ensures in
+    none_of (cases c) refl number c.if-number-ne0.false in
+    accepted _ _ _ _ free in
+    rw handed facts.in_range_lem
 
 pub give_next-requires : goal.give_next-requires
-give_next-requires c = let f = facts c in (f.otp_whole, (picture_size _ f.picture).1, omega arith)
+give_next-requires c =
+    let handed : let t = c.args.temperature in to_z w32 (of_z w32 t) ≡ t = to_z-of_z c.ranges.temperature in
+    let number : c.refusal-number.result ≡ first_of (cases c) (λ n. n) 0 = let handed : let t = c.args.temperature in to_z w32 (of_z w32 t) ≡ t = to_z-of_z c.ranges.temperature in
+    rw (c.normal_good.ensures, handed) at c.refusal-number.ensures in
+    let free : None (cases c) = let handed : let t = c.args.temperature in to_z w32 (of_z w32 t) ≡ t = to_z-of_z c.ranges.temperature in
+    let number : c.refusal-number.result ≡ first_of (cases c) (λ n. n) 0 = let handed : let t = c.args.temperature in to_z w32 (of_z w32 t) ≡ t = to_z-of_z c.ranges.temperature in
+    rw (c.normal_good.ensures, handed) at c.refusal-number.ensures in
+    none_of (cases c) refl number c.if-number-ne0.false in
+    let facts : let a = c.args in
+    Accepted a.otp.now (normal_good a.temperature) (length a.new.now) (length a.new.now) = let handed : let t = c.args.temperature in to_z w32 (of_z w32 t) ≡ t = to_z-of_z c.ranges.temperature in
+    let number : c.refusal-number.result ≡ first_of (cases c) (λ n. n) 0 = let handed : let t = c.args.temperature in to_z w32 (of_z w32 t) ≡ t = to_z-of_z c.ranges.temperature in
+    rw (c.normal_good.ensures, handed) at c.refusal-number.ensures in
+    let free : None (cases c) = let handed : let t = c.args.temperature in to_z w32 (of_z w32 t) ≡ t = to_z-of_z c.ranges.temperature in
+    let number : c.refusal-number.result ≡ first_of (cases c) (λ n. n) 0 = let handed : let t = c.args.temperature in to_z w32 (of_z w32 t) ≡ t = to_z-of_z c.ranges.temperature in
+    rw (c.normal_good.ensures, handed) at c.refusal-number.ensures in
+    none_of (cases c) refl number c.if-number-ne0.false in
+    accepted _ _ _ _ free in
+    let f = facts in (f.otp_whole, (picture_size _ f.picture).1, omega arith)
 
 pub returns : goal.returns
 unfolding normal_update
 returns c =
+    let handed : let t = c.args.temperature in to_z w32 (of_z w32 t) ≡ t = to_z-of_z c.ranges.temperature in
+    let number : c.refusal-number.result ≡ first_of (cases c) (λ n. n) 0 = let handed : let t = c.args.temperature in to_z w32 (of_z w32 t) ≡ t = to_z-of_z c.ranges.temperature in
+    rw (c.normal_good.ensures, handed) at c.refusal-number.ensures in
+    let free : None (cases c) = let handed : let t = c.args.temperature in to_z w32 (of_z w32 t) ≡ t = to_z-of_z c.ranges.temperature in
+    let number : c.refusal-number.result ≡ first_of (cases c) (λ n. n) 0 = let handed : let t = c.args.temperature in to_z w32 (of_z w32 t) ≡ t = to_z-of_z c.ranges.temperature in
+    rw (c.normal_good.ensures, handed) at c.refusal-number.ensures in
+    none_of (cases c) refl number c.if-number-ne0.false in
     let else1 = c in
     let at = else1 in
-    give (thing at) _ (cases at) (free else1)
-    (rw (c.normal_index.ensures, handed at) at c.give_next.ensures)
+    give (thing at) _ (cases at) free
+    (rw (c.normal_index.ensures, handed) at c.give_next.ensures)

@@ -1,5 +1,7 @@
 -- A refused test is one of the list; past the others the last decides.
 -- Assumes nothing.
+use mathlib.Core.Bool.{not}
+use mathlib.Core.Path.{ap}
 use native.Mathlib.Omega.{arith}
 use borrow.Author.Rules.{rules}
 use borrow.Author.Tests.{lt-leb}
@@ -15,7 +17,7 @@ returns-then-command-lt4 c =
 pub returns-then-not-is_upload_to : goal.returns-then-not-is_upload_to
 returns-then-not-is_upload_to c =
     let a = c.args in
-    not_upload_to a.slot a.command.now (refused c.is_upload_to.ensures c.if-not-is_upload_to.true)
+    not_upload_to a.slot a.command.now (refused c.is_upload_to.ensures (ap not c.if-not-is_upload_to.true))
 
 pub overflow_cast-n : goal.overflow_cast-n
 overflow_cast-n c = omega (arith, c.type_inv.command 3)
@@ -33,4 +35,4 @@ returns-then-n-gt251 c =
 pub returns : goal.returns
 returns c =
     let a = c.args in
-    upload_last a.slot a.command.now (passed c.is_upload_to.ensures c.if-not-is_upload_to.false) (omega arith) (omega arith)
+    upload_last a.slot a.command.now (passed c.is_upload_to.ensures (ap not c.if-not-is_upload_to.false)) (omega arith) (omega arith)

@@ -1,5 +1,7 @@
 -- The one refusal, or the header.
 -- Assumes nothing.
+use mathlib.Core.Bool.{not}
+use mathlib.Core.Path.{ap}
 use native.Mathlib.Omega.{arith}
 use borrow.Author.Rules.{rules}
 use Rattle.lists.proofs.Rules.{refused, passed}
@@ -10,16 +12,16 @@ use Rattle.hall_display.proofs.make_header.Goals as goal
 pub returns-then-not-is_display : goal.returns-then-not-is_display
 returns-then-not-is_display c =
     let a = c.args in
-    search (rules, made_refused a.panel a.depth (refused c.is_display.ensures c.if-not-is_display.true))
+    search (rules, made_refused a.panel a.depth (refused c.is_display.ensures (ap not c.if-not-is_display.true)))
 
 pub header_bytes-bytes-requires : goal.header_bytes-bytes-requires
 header_bytes-bytes-requires c =
     let a = c.args in
-    let good = passed c.is_display.ensures c.if-not-is_display.false in
+    let good = passed c.is_display.ensures (ap not c.if-not-is_display.false) in
     (panel-small a.panel a.depth good, omega (arith, depth_small a.panel a.depth good))
 
 pub returns : goal.returns
 returns c =
     let a = c.args in
-    let good = passed c.is_display.ensures c.if-not-is_display.false in
+    let good = passed c.is_display.ensures (ap not c.if-not-is_display.false) in
     search (rules, made_given a.panel a.depth good c.header_bytes-bytes.ensures)

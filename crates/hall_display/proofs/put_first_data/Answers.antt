@@ -19,9 +19,9 @@ put_at-requires-2 c = simp length-take (omega arith)
 pub returns : goal.returns
 returns c =
     let c₁ = c in
-    let s = c₁.before in
+    let s = c₁ in
     let a = s.args in
     first_put a.panel a.depth a.image.now a.n a.out.now s.requires.2 s.requires.3
-    c₁.before.header-bytes.ensures
+    c₁.header_bytes-head.ensures
     c₁.put_at.ensures
     c.put_at-2.ensures

@@ -38,9 +38,9 @@ overflow_cast-head c =
 pub put_data-requires : goal.put_data-requires
 put_data-requires c =
     let c₁ = c in
-    let a = c₁.before.args in
+    let a = c₁.args in
     let good =
-    display_good a.panel a.depth a.image.now a.slot a.number a.out.now c₁.before.upload-number.ensures c₁.if-refusal-ne0.false in (
+    display_good a.panel a.depth a.image.now a.slot a.number a.out.now c₁.upload_number-refusal.ensures c₁.if-refusal-ne0.false in (
       panel-small a.panel a.depth good,
       depth_small a.panel a.depth good,
       c.data_length-n.ensures,
@@ -51,12 +51,12 @@ put_data-requires c =
 pub returns : goal.returns
 returns c =
     let c₃ = c in
-    let c₂ = c₃.before in
-    let c₁ = c₂.before in
-    let a = c₁.before.args in
+    let c₂ = c₃ in
+    let c₁ = c₂ in
+    let a = c₁.args in
     search (
       rules,
-      upload_given a.panel a.depth a.image.now a.slot a.number a.out.now c₁.before.upload-number.ensures
-          c₁.if1.false c₂.before.data_length_lem.ensures c₂.if2.false c₃.if-out-n.false
+      upload_given a.panel a.depth a.image.now a.slot a.number a.out.now c₁.upload_number-refusal.ensures
+          c₁.if-refusal-ne0.false c₂.data_length-n.ensures c₂.if-n-eq0.false c₃.if-out-n.false
           c.put_at.ensures c.put_data.ensures,
     )

@@ -1,3 +1,4 @@
+use mathlib.Core.Bool.{not}
 use mathlib.Core.Path.{◌≡◌, refl, sym, ap, ◌∙◌}
 use mathlib.Core.Bool.{true}
 use mathlib.Core.Logic.{⊎_elim}
@@ -41,7 +42,7 @@ returns-then-not-has_dots c =
     let place = c.chart_on-chart.ensures.stands levels l.c (omega arith) in
     c.refused-then-not-has_dots.ensures
     ∙ no_dots list a.width a.height levels l.c (omega arith)
-    (ap has_dots (sym place) ∙ refused c.has_dots.ensures c.if-not-has_dots.true)
+    (ap has_dots (sym place) ∙ refused c.has_dots.ensures (ap not c.if-not-has_dots.true))
 
 pub bounds-list-at : goal.bounds-list-at
 bounds-list-at c =
@@ -70,7 +71,7 @@ loop-c-preserved c =
     let few = (good_framed list c.requires.0).few in
     let levels : levels_good list ≡ true = not-false (levels_good list) (sym c.chart_on-chart.ensures.deep ∙ c.if-chart.false) in
     let place = c.chart_on-chart.ensures.stands levels l.c (omega arith) in
-    let dots = ap has_dots (sym place) ∙ passed c.has_dots.ensures c.if-not-has_dots.false in (
+    let dots = ap has_dots (sym place) ∙ passed c.has_dots.ensures (ap not c.if-not-has_dots.false) in (
       omega arith,
       l.invariant.1,
       c.next_box-at.ensures ∙ next_start list l.c l.at l.invariant.2,

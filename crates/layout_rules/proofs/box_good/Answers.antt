@@ -1,3 +1,5 @@
+use mathlib.Core.Bool.{not}
+use mathlib.Core.Path.{ap}
 use mathlib.Core.Path.{◌≡◌, refl}
 use mathlib.Core.Bool.{true}
 use Prim.Native.Nat.{◌-◌, ◌≤◌}
@@ -21,13 +23,13 @@ loop-j-init c = (omega arith, c.wide-k.ensures.0, omega arith, refl)
 pub returns-then-not-child_good : goal.returns-then-not-child_good
 returns-then-not-child_good c =
     let a = c.args in
-    box_broken a.list.now a.i a.at c.requires.0 c.loop-j.j (omega arith) (refused c.child_good.ensures c.if-not-child_good.true)
+    box_broken a.list.now a.i a.at c.requires.0 c.loop-j.j (omega arith) (refused c.child_good.ensures (ap not c.if-not-child_good.true))
 
 pub loop-j-preserved : goal.loop-j-preserved
 loop-j-preserved c =
     let a = c.args in
     let l = c.loop-j in
-    (omega arith, l.invariant.1, l.invariant.2, all_more l.j (child_good a.list.now a.i a.at) (passed c.child_good.ensures c.if-not-child_good.false) l.invariant.3)
+    (omega arith, l.invariant.1, l.invariant.2, all_more l.j (child_good a.list.now a.i a.at) (passed c.child_good.ensures (ap not c.if-not-child_good.false)) l.invariant.3)
 
 pub returns : goal.returns
 returns c =

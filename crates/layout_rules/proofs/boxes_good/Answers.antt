@@ -1,3 +1,5 @@
+use mathlib.Core.Bool.{not}
+use mathlib.Core.Path.{ap}
 use mathlib.Core.Path.{◌≡◌, refl, sym, ◌∙◌}
 use mathlib.Core.Bool.{true}
 use Prim.Native.Nat.{◌-◌, ◌≤◌}
@@ -22,7 +24,7 @@ box_good-requires c = (c.loop-i.invariant.2, box-within c.args.list.now c.requir
 pub returns-then-not-box_good : goal.returns-then-not-box_good
 returns-then-not-box_good c =
     let list = c.args.list.now in
-    sym (below_fails (box_count list) (box_good list) c.loop-i.i (omega arith) (refused c.box_good.ensures c.if-not-box_good.true))
+    sym (below_fails (box_count list) (box_good list) c.loop-i.i (omega arith) (refused c.box_good.ensures (ap not c.if-not-box_good.true)))
 
 pub next_box-at-requires : goal.next_box-at-requires
 next_box-at-requires c = box-within c.args.list.now c.requires c.loop-i.i c.loop-i.at (omega arith) c.loop-i.invariant.2
@@ -34,7 +36,7 @@ loop-i-preserved c =
       omega arith,
       l.invariant.1,
       c.next_box-at.ensures ∙ next_start list l.i l.at l.invariant.2,
-      all_more l.i (box_good list) (passed c.box_good.ensures c.if-not-box_good.false) l.invariant.3,
+      all_more l.i (box_good list) (passed c.box_good.ensures (ap not c.if-not-box_good.false)) l.invariant.3,
     )
 
 pub returns : goal.returns

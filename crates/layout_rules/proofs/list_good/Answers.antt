@@ -1,5 +1,7 @@
 -- Each rule is one branch.
 -- Assumes nothing.
+use mathlib.Core.Bool.{not}
+use mathlib.Core.Path.{ap}
 use mathlib.Core.Path.{sym, ◌∙◌}
 use mathlib.Core.Bool.{and-true}
 use Prim.Native.Nat.{◌-◌}
@@ -36,25 +38,25 @@ unfolding list_good
 returns-then-not-framed c =
     let list = c.args.list.now in
     let e = rw c.wide-n.ensures.0 at c.framed.ensures in
-    sym (broken 2 (list_rules list) (refused e c.if-not-framed.true))
+    sym (broken 2 (list_rules list) (refused e (ap not c.if-not-framed.true)))
 
 pub boxes_good-requires : goal.boxes_good-requires
 boxes_good-requires c =
     let list = c.args.list.now in
     let e = rw c.wide-n.ensures.0 at c.framed.ensures in
-    frame list (omega arith) (eqb-true (start_of list (box_count list)) (length list) (passed e c.if-not-framed.false))
+    frame list (omega arith) (eqb-true (start_of list (box_count list)) (length list) (passed e (ap not c.if-not-framed.false)))
 
 pub returns-then-not-boxes_good : goal.returns-then-not-boxes_good
 unfolding list_good
 returns-then-not-boxes_good c =
     let list = c.args.list.now in
-    sym (broken 3 (list_rules list) (refused c.boxes_good.ensures c.if-not-boxes_good.true))
+    sym (broken 3 (list_rules list) (refused c.boxes_good.ensures (ap not c.if-not-boxes_good.true)))
 
 pub each_once-requires : goal.each_once-requires
 each_once-requires c =
     let list = c.args.list.now in
     let e = rw c.wide-n.ensures.0 at c.framed.ensures in
-    frame list (omega arith) (eqb-true (start_of list (box_count list)) (length list) (passed e c.if-not-framed.false))
+    frame list (omega arith) (eqb-true (start_of list (box_count list)) (length list) (passed e (ap not c.if-not-framed.false)))
 
 pub returns : goal.returns
 unfolding list_good
@@ -66,6 +68,6 @@ returns c =
     (others 4 (list_rules list)
     (keep (le-leb 1 (box_count list) (omega arith))
     (keep (le-leb (box_count list) 64 (omega arith))
-    (keep (passed e c.if-not-framed.false)
-    (keep (passed c.boxes_good.ensures c.if-not-boxes_good.false) none))))
+    (keep (passed e (ap not c.if-not-framed.false))
+    (keep (passed c.boxes_good.ensures (ap not c.if-not-boxes_good.false)) none))))
     ∙ and-true (all_below (box_count list - 1) (child_once list)))

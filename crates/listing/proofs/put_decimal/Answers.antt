@@ -15,7 +15,7 @@ pub returns-then-n-lt100 : goal.returns-then-n-lt100
 returns-then-n-lt100 c =
     let tens = c in
     let ones = tens in
-    let digits = decimal_2 ones.args.n ones.last-digit.ensures tens.last_digit-tens.ensures tens.if-n-lt10.false c.if-n-lt100.true in
+    let digits = decimal_2 ones.args.n ones.last_digit-ones.ensures tens.last_digit-tens.ensures tens.if-n-lt10.false c.if-n-lt100.true in
     appended_as digits c.put_text-then-n-lt100.ensures
 
 pub returns-then-n-lt1000 : goal.returns-then-n-lt1000
@@ -23,7 +23,7 @@ returns-then-n-lt1000 c =
     let hundreds = c in
     let tens = hundreds in
     let ones = tens in
-    let digits = decimal_3 ones.args.n ones.last-digit.ensures tens.last-digit2.ensures tens.if1.false hundreds.last_digit-hundreds.ensures hundreds.if-n-lt100.false c.if-n-lt1000.true in
+    let digits = decimal_3 ones.args.n ones.last_digit-ones.ensures tens.last_digit-tens.ensures tens.if-n-lt10.false hundreds.last_digit-hundreds.ensures hundreds.if-n-lt100.false c.if-n-lt1000.true in
     appended_as digits c.put_text-then-n-lt1000.ensures
 
 pub returns : goal.returns
@@ -32,5 +32,5 @@ returns c =
     let hundreds = thousands in
     let tens = hundreds in
     let ones = tens in
-    let digits = decimal_4 ones.args.n ones.last-digit.ensures tens.last-digit2.ensures tens.if1.false hundreds.last-digit3.ensures hundreds.if2.false thousands.last_digit.ensures thousands.if-n-lt1000.false in
+    let digits = decimal_4 ones.args.n ones.last_digit-ones.ensures tens.last_digit-tens.ensures tens.if-n-lt10.false hundreds.last_digit-hundreds.ensures hundreds.if-n-lt100.false thousands.last_digit.ensures thousands.if-n-lt1000.false in
     appended_as digits c.put_text-2.ensures

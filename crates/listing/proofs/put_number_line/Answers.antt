@@ -14,5 +14,5 @@ returns c =
     let number = c in
     let word = number in
     let short = decimal_short word.args.n in
-    let head = appended_next word.put-text.ensures number.put_decimal-end.ensures (omega arith) in
+    let head = appended_next word.put_text-head.ensures number.put_decimal-end.ensures (omega arith) in
     appended_next head c.put_text.ensures (omega (arith, short))

@@ -11,6 +11,6 @@ pub returns : goal.returns
 returns c =
     let low = c in
     let high = low in
-    let e : 32 ∷ high.digit-of.result ∷ low.digit_of-2.result ∷ [] ≡ ascii " " ++ hex_byte high.args.byte =
-    rw (high.digit-of.ensures, low.digit_of-2.ensures) in
+    let e : 32 ∷ high.digit_of.result ∷ low.digit_of-2.result ∷ [] ≡ ascii " " ++ hex_byte high.args.byte =
+    rw (high.digit_of.ensures, low.digit_of-2.ensures) in
     appended_as e c.put_text.ensures

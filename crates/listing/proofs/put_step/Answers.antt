@@ -36,7 +36,7 @@ returns-in-Wait c =
     let wait = c in
     let step = wait in
     let a = step.args in
-    let e = (step_wait a.panel wait.in-Wait.ms (drop a.from a.file.now) (sym step.step_at.ensures ∙ wait.in-Wait.is)).0 in
+    let e = (step_wait a.panel wait.in-Wait.ms (drop a.from a.file.now) (sym step.step_at-kind.ensures ∙ wait.in-Wait.is)).0 in
     appended_as (ap step_line (sym e)) c.put_number_line.ensures
 
 pub returns-in-Malformed : goal.returns-in-Malformed

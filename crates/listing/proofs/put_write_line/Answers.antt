@@ -15,6 +15,6 @@ returns c =
     let register = bytes in
     let word = register in
     let long = length_spaced word.args.bytes.now in
-    let front = appended_next word.put-text.ensures register.put-spaced-byte.ensures (omega arith) in
+    let front = appended_next word.put_text-word.ensures register.put_spaced_byte-head.ensures (omega arith) in
     let shown = appended_next front bytes.put_spaced_bytes-end.ensures (omega arith) in
     appended_next shown c.put_text.ensures (omega (arith, long))

@@ -1,3 +1,5 @@
+use mathlib.Core.Bool.{not}
+use mathlib.Core.Path.{ap}
 use mathlib.Core.Path.{◌≡◌, refl, sym, ◌∙◌}
 use mathlib.Core.Bool.{true}
 use Prim.Native.Nat.{◌-◌, ◌≤◌, ◌<◌}
@@ -16,26 +18,47 @@ loop-i-init c = (omega arith, refl)
 
 pub field_mendable-requires : goal.field_mendable-requires
 field_mendable-requires c =
+    let low : c.loop-i.i < 17 = omega arith in
+    let at_place : let a = c.args in
+    c.field_of.result ≡ field_at a.b a.h a.s c.loop-i.i = let low : c.loop-i.i < 17 = omega arith in
+    let known = c in
+    let a = known.args in
+    c.field_of.ensures
+    ∙ entry_at a.b a.h a.s known.table-fields.result (known.table-fields.ensures a.b a.h a.s) c.loop-i.i low _ in
     let i = c.loop-i.i in
     let a = c.args in (
-      rw (at_place c) (field-small a.b a.h a.s i (low c)),
-      rw (at_place c) (omega (arith, field-within a.b a.h a.s i (low c))),
+      rw at_place (field-small a.b a.h a.s i low),
+      rw at_place (omega (arith, field-within a.b a.h a.s i low)),
     )
 
 pub returns-then-not-field_mendable : goal.returns-then-not-field_mendable
 returns-then-not-field_mendable c =
+    let low : c.loop-i.i < 17 = omega arith in
+    let at_place : let a = c.args in
+    c.field_of.result ≡ field_at a.b a.h a.s c.loop-i.i = let low : c.loop-i.i < 17 = omega arith in
+    let known = c in
+    let a = known.args in
+    c.field_of.ensures
+    ∙ entry_at a.b a.h a.s known.table-fields.result (known.table-fields.ensures a.b a.h a.s) c.loop-i.i low _ in
     let f = c in
     let a = f.args in
-    sym (field_bad (field_mendable a.file.now) a.b a.h a.s f.loop-i.i (low f) _ (at_place f)
-    (refused c.field_mendable.ensures c.if-not-field_mendable.true))
+    sym (field_bad (field_mendable a.file.now) a.b a.h a.s f.loop-i.i low _ at_place
+    (refused c.field_mendable.ensures (ap not c.if-not-field_mendable.true)))
 
 pub loop-i-preserved : goal.loop-i-preserved
 loop-i-preserved c =
+    let low : c.loop-i.i < 17 = omega arith in
+    let at_place : let a = c.args in
+    c.field_of.result ≡ field_at a.b a.h a.s c.loop-i.i = let low : c.loop-i.i < 17 = omega arith in
+    let known = c in
+    let a = known.args in
+    c.field_of.ensures
+    ∙ entry_at a.b a.h a.s known.table-fields.result (known.table-fields.ensures a.b a.h a.s) c.loop-i.i low _ in
     let f = c in
     let l = f.loop-i in
     let a = f.args in (
       omega arith,
-      field_next (field_mendable a.file.now) a.b a.h a.s l.i (low f) _ (at_place f) l.invariant.1 (passed c.field_mendable.ensures c.if-not-field_mendable.false),
+      field_next (field_mendable a.file.now) a.b a.h a.s l.i low _ at_place l.invariant.1 (passed c.field_mendable.ensures (ap not c.if-not-field_mendable.false)),
     )
 
 pub returns : goal.returns

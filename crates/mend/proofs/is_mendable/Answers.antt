@@ -1,5 +1,6 @@
 -- The two lengths and the palette are asked first; then the fields decide.
 -- Assumes nothing.
+use mathlib.Core.Bool.{not}
 use mathlib.Core.Path.{sym, ap, ◌∙◌}
 use native.Mathlib.Omega.{arith}
 use borrow.Author.Rules.{rules}
@@ -21,11 +22,11 @@ returns-then-file_length-file c =
 pub returns-then-not-black_and_white : goal.returns-then-not-black_and_white
 returns-then-not-black_and_white c =
     let a = c.args in
-    wrong_palette a.b a.h a.s a.file.now (refused (c.black_and_white.ensures ∙ ap black_and_white c.palette_of.ensures) c.if-not-black_and_white.true)
+    wrong_palette a.b a.h a.s a.file.now (refused (c.black_and_white.ensures ∙ ap black_and_white c.palette_of.ensures) (ap not c.if-not-black_and_white.true))
 
 pub returns : goal.returns
 returns c =
     let a = c.args in
     c.fields_mendable.ensures
     ∙ sym (fields_decide a.b a.h a.s a.file.now (omega (arith, c.if-file-lt62.false)) (omega (arith, c.file_length.ensures, c.if-file_length-file.false))
-    (passed (c.black_and_white.ensures ∙ ap black_and_white c.palette_of.ensures) c.if-not-black_and_white.false))
+    (passed (c.black_and_white.ensures ∙ ap black_and_white c.palette_of.ensures) (ap not c.if-not-black_and_white.false)))

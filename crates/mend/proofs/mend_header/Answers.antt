@@ -23,22 +23,36 @@ loop-i-init c =
 
 pub mend_field-requires : goal.mend_field-requires
 mend_field-requires c =
+    let low : c.loop-i.i < 17 = omega arith in
+    let at_place : let a = c.args in
+    c.field_of.result ≡ field_at a.b a.h a.s c.loop-i.i = let low : c.loop-i.i < 17 = omega arith in
+    let known = c in
+    let a = known.args in
+    c.field_of.ensures
+    ∙ entry_at a.b a.h a.s known.table-fields.result (known.table-fields.ensures a.b a.h a.s) c.loop-i.i low _ in
     let a = c.args in
     let l = c.loop-i in
-    let within = field-within a.b a.h a.s l.i (low c) in (
-      rw (at_place c) (field-small a.b a.h a.s l.i (low c)),
-      rw (at_place c) (omega (arith, within, c.requires)),
-      rw (at_place c) (omega (arith, within, l.invariant)),
+    let within = field-within a.b a.h a.s l.i low in (
+      rw at_place (field-small a.b a.h a.s l.i low),
+      rw at_place (omega (arith, within, c.requires)),
+      rw at_place (omega (arith, within, l.invariant)),
     )
 
 pub loop-i-preserved : goal.loop-i-preserved
 loop-i-preserved c =
+    let low : c.loop-i.i < 17 = omega arith in
+    let at_place : let a = c.args in
+    c.field_of.result ≡ field_at a.b a.h a.s c.loop-i.i = let low : c.loop-i.i < 17 = omega arith in
+    let known = c in
+    let a = known.args in
+    c.field_of.ensures
+    ∙ entry_at a.b a.h a.s known.table-fields.result (known.table-fields.ensures a.b a.h a.s) c.loop-i.i low _ in
     let f = c in
     let a = c.args in
     let l = c.loop-i in (
       omega arith,
       search rules,
-      mend_next a.b a.h a.s a.file.now l.i (low f) _ (at_place f) (take header_length a.file.now) l.invariant.2 c.mend_field.ensures,
+      mend_next a.b a.h a.s a.file.now l.i low _ at_place (take header_length a.file.now) l.invariant.2 c.mend_field.ensures,
     )
 
 pub returns : goal.returns

@@ -20,18 +20,41 @@ loop-j-init c =
     )
 
 pub overflow_mul-end : goal.overflow_mul-end
-overflow_mul-end c = omega (arith, (ends c).1)
+overflow_mul-end c =
+    let ends : let a = c.args in
+    let end = (c.loop-j.j + 1) * a.rb in
+    (a.rb ≤ end) × (end ≤ length a.rows.now) = let a = c.args in
+    let e = row_ends c.loop-j.j a.height a.rb (omega arith) in
+    (e.0, omega (arith, e.1)) in
+    omega (arith, ends.1)
 
 pub overflow_sub-end : goal.overflow_sub-end
-overflow_sub-end c = omega (arith, (ends c).0)
+overflow_sub-end c =
+    let ends : let a = c.args in
+    let end = (c.loop-j.j + 1) * a.rb in
+    (a.rb ≤ end) × (end ≤ length a.rows.now) = let a = c.args in
+    let e = row_ends c.loop-j.j a.height a.rb (omega arith) in
+    (e.0, omega (arith, e.1)) in
+    omega (arith, ends.0)
 
 pub slice_bounds-paint_row-end : goal.slice_bounds-paint_row-end
-slice_bounds-paint_row-end c = (ends c).1
+slice_bounds-paint_row-end c =
+    let ends : let a = c.args in
+    let end = (c.loop-j.j + 1) * a.rb in
+    (a.rb ≤ end) × (end ≤ length a.rows.now) = let a = c.args in
+    let e = row_ends c.loop-j.j a.height a.rb (omega arith) in
+    (e.0, omega (arith, e.1)) in
+    ends.1
 
 pub paint_row-requires : goal.paint_row-requires
 paint_row-requires c =
+    let ends : let a = c.args in
+    let end = (c.loop-j.j + 1) * a.rb in
+    (a.rb ≤ end) × (end ≤ length a.rows.now) = let a = c.args in
+    let e = row_ends c.loop-j.j a.height a.rb (omega arith) in
+    (e.0, omega (arith, e.1)) in
     let l = c.loop-j in
-    let e = ends c in
+    let e = ends in
     (l.invariant.1, omega arith, omega arith, simp (length-take, length-drop) (omega (arith, e.0, e.1)), omega arith)
 
 pub loop-j-preserved : goal.loop-j-preserved

@@ -10,25 +10,37 @@ use Rattle.picture.proofs.Slots.{painted_white, painted_black}
 use Rattle.picture.proofs.set_dot.Goals as goal
 
 pub overflow_mul-at : goal.overflow_mul-at
-overflow_mul-at c = omega (arith, place c)
+overflow_mul-at c =
+    let place : c.args.y * c.args.b + c.args.x / 8 < length c.args.raw.now = rw c.requires.0 (digits_lt c.requires.2 (omega arith)) in
+    omega (arith, place)
 
 pub overflow_add-at : goal.overflow_add-at
-overflow_add-at c = omega (arith, place c)
+overflow_add-at c =
+    let place : c.args.y * c.args.b + c.args.x / 8 < length c.args.raw.now = rw c.requires.0 (digits_lt c.requires.2 (omega arith)) in
+    omega (arith, place)
 
 pub bounds-raw-at : goal.bounds-raw-at
-bounds-raw-at c = place c
+bounds-raw-at c =
+    let place : c.args.y * c.args.b + c.args.x / 8 < length c.args.raw.now = rw c.requires.0 (digits_lt c.requires.2 (omega arith)) in
+    place
 
 pub bounds-raw-at-then-v-eq1 : goal.bounds-raw-at-then-v-eq1
-bounds-raw-at-then-v-eq1 c = place c
+bounds-raw-at-then-v-eq1 c =
+    let place : c.args.y * c.args.b + c.args.x / 8 < length c.args.raw.now = rw c.requires.0 (digits_lt c.requires.2 (omega arith)) in
+    place
 
 pub bounds-raw-at-else-v-eq1 : goal.bounds-raw-at-else-v-eq1
-bounds-raw-at-else-v-eq1 c = place c
+bounds-raw-at-else-v-eq1 c =
+    let place : c.args.y * c.args.b + c.args.x / 8 < length c.args.raw.now = rw c.requires.0 (digits_lt c.requires.2 (omega arith)) in
+    place
 
 pub overflow_sub-raw : goal.overflow_sub-raw
 overflow_sub-raw c = omega (arith, div-le_self 128 (2 ^ (c.args.x % 8)))
 
 pub bounds-raw-at-else-v-eq1-2 : goal.bounds-raw-at-else-v-eq1-2
-bounds-raw-at-else-v-eq1-2 c = place c
+bounds-raw-at-else-v-eq1-2 c =
+    let place : c.args.y * c.args.b + c.args.x / 8 < length c.args.raw.now = rw c.requires.0 (digits_lt c.requires.2 (omega arith)) in
+    place
 
 pub returns-then-v-eq1 : goal.returns-then-v-eq1
 returns-then-v-eq1 c =

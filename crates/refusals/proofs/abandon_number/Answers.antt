@@ -6,4 +6,4 @@ use borrow.Author.Rules.{rules}
 use Rattle.refusals.proofs.abandon_number.Goals as goal
 
 pub returns : goal.returns
-returns c = first_case c.args 9 (ap not c.is_running.ensures) c.or_number.ensures
+returns c = first_case c.args.before 9 (ap not c.is_running.ensures) c.or_number.ensures

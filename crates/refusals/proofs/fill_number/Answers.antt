@@ -13,4 +13,4 @@ twice false = refl
 pub returns : goal.returns
 returns c =
     let a = c.args in
-    first_case a 17 (twice (eqb a.store.fill.slot 0)) c.or_number.ensures
+    first_case a.before 17 (twice (eqb a.store.fill.slot 0)) c.or_number.ensures

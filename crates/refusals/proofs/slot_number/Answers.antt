@@ -10,6 +10,6 @@ use Rattle.refusals.proofs.slot_number.Goals as goal
 pub returns : goal.returns
 returns c =
     let a = c.args in
-    one_more (take 1 (slot_own a.store a.slot)) refl a 7
-    (first_case a 3 (ap not c.takes_pictures-absent.ensures) c.or_number-number.ensures)
+    one_more (take 1 (slot_own a.store a.slot)) refl a.before 7
+    (first_case a.before 3 (ap not c.takes_pictures-absent.ensures) c.or_number-number.ensures)
     c.is_runs_slot-shown.ensures c.or_number.ensures

@@ -11,8 +11,8 @@ pub returns : goal.returns
 returns c =
     let a = c.args in
     let own = start_own a.store a.slot in
-    one_more (take 3 own) refl a 15 {t = is_filled a.store.fill a.slot}
-    (one_more (take 2 own) refl a 3
-    (one_more (take 1 own) refl a 12 (first_case a 8 c.is_running-running.ensures c.or_number-number.ensures) c.is_abandoned-abandoned.ensures c.or_number-number-2.ensures)
+    one_more (take 3 own) refl a.before 15 {t = is_filled a.store.fill a.slot}
+    (one_more (take 2 own) refl a.before 3
+    (one_more (take 1 own) refl a.before 12 (first_case a.before 8 c.is_running-running.ensures c.or_number-number.ensures) c.is_abandoned-abandoned.ensures c.or_number-number-2.ensures)
     (ap not c.takes_pictures-absent.ensures) c.or_number-number-3.ensures)
     refl c.or_number.ensures

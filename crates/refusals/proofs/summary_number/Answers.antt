@@ -8,4 +8,4 @@ use Rattle.refusals.proofs.summary_number.Goals as goal
 pub returns : goal.returns
 returns c =
     let a = c.args in
-    first_case a 3 {t = ltb a.store.slots a.slot} refl c.or_number.ensures
+    first_case a.before 3 {t = ltb a.store.slots a.slot} refl c.or_number.ensures

@@ -8,4 +8,4 @@ use Rattle.refusals.proofs.upload_number.Goals as goal
 pub returns : goal.returns
 returns c =
     let a = c.args in
-    one_more (slot_own a.store a.slot) refl a 15 {t = is_filled a.store.fill a.slot} c.slot_number-number.ensures refl c.or_number.ensures
+    one_more (slot_own a.store a.slot) refl a.before 15 {t = is_filled a.store.fill a.slot} c.slot_number-number.ensures refl c.or_number.ensures

@@ -13,6 +13,6 @@ file_length-needed-requires c = (c.requires.low, c.requires.small)
 pub returns : goal.returns
 returns c =
     let a = c.args in
-    one_more (take 1 (write_own a.store a.shape a.slot a.out-len)) refl a 11
-    (first_case a 3 {t = ltb a.store.slots a.slot} refl c.or_number-number.ensures)
-    (ap (ltb a.out-len) c.file_length-needed.ensures) c.or_number.ensures
+    one_more (take 1 (write_own a.store a.shape a.slot a.out_len)) refl a.before 11
+    (first_case a.before 3 {t = ltb a.store.slots a.slot} refl c.or_number-number.ensures)
+    (ap (ltb a.out_len) c.file_length-needed.ensures) c.or_number.ensures

@@ -1,4 +1,5 @@
 -- `start_valid` meets its contract, rule by rule. Assumes nothing.
+use mathlib.Core.Bool.{not}
 use mathlib.Core.Path.{sym, ◌∙◌}
 use native.Mathlib.Omega.{arith}
 use borrow.Author.Tests.{lt-leb, ne_eqb, not-true, not-false}
@@ -20,7 +21,7 @@ after_write-requires c = (c.requires.start.readable, c.if-starts-k.false)
 pub returns-then-not-after_write : goal.returns-then-not-after_write
 returns-then-not-after_write c =
     let a = c.args in
-    let after = ap (λ steps. after_write steps a.k) (sym c.requires.start.steps_are) ∙ sym c.after_write.ensures ∙ not-true _ c.if-not-after_write.true in
+    let after = ap (λ steps. after_write steps a.k) (sym c.requires.start.steps_are) ∙ sym c.after_write.ensures ∙ not-true _ (ap not c.if-not-after_write.true) in
     sym (broken 1 (start_place_rules a.file.now a.run a.k) after)
 
 pub returns-then-run-ne0 : goal.returns-then-run-ne0
@@ -38,5 +39,5 @@ pub returns : goal.returns
 returns c =
     let entry = c in
     let a = entry.args in
-    let after = ap (λ steps. after_write steps a.k) (sym entry.requires.start.steps_are) ∙ sym c.after_write.ensures ∙ not-false _ c.if-not-after_write.false in
+    let after = ap (λ steps. after_write steps a.k) (sym entry.requires.start.steps_are) ∙ sym c.after_write.ensures ∙ not-false _ (ap not c.if-not-after_write.false) in
     sym (start_later a.file.now a.run a.k c.if-k-eq0.false (omega (arith, c.if-starts-k.false, entry.requires.start.count_is)) after c.if-run-ne0.false)

@@ -1,4 +1,6 @@
 -- The code is a panel's, and its pictures are small. Assumes nothing.
+use mathlib.Core.Bool.{not}
+use mathlib.Core.Path.{ap}
 use Prim.Native.Nat.{◌+◌}
 use native.Mathlib.Nat.{mul-le-mul}
 use native.Mathlib.Omega.{arith}
@@ -8,10 +10,10 @@ use borrow.Author.Rules.{rules}
 use Rattle.session.proofs.slots_length.Goals as goal
 
 pub rows-requires : goal.rows-requires
-rows-requires c = ltb-true c.args.code 3 (passed c.is_panel.ensures c.if-not-is_panel.false)
+rows-requires c = ltb-true c.args.code 3 (passed c.is_panel.ensures (ap not c.if-not-is_panel.false))
 
 pub row_bytes-requires : goal.row_bytes-requires
-row_bytes-requires c = ltb-true c.args.code 3 (passed c.is_panel.ensures c.if-not-is_panel.false)
+row_bytes-requires c = ltb-true c.args.code 3 (passed c.is_panel.ensures (ap not c.if-not-is_panel.false))
 
 pub overflow_mul-result : goal.overflow_mul-result
 overflow_mul-result c = omega (arith, mul-le-mul {n₂ = 176} {m₂ = 33} c.rows.ensures.1 c.row_bytes.ensures.1)

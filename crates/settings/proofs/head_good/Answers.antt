@@ -1,4 +1,6 @@
 -- `head_good` meets its contract: each of the first five rules is one branch. Assumes nothing.
+use mathlib.Core.Bool.{not}
+use mathlib.Core.Path.{ap}
 use mathlib.Core.Path.{sym, ◌∙◌}
 use mathlib.Core.Bool.{and-true}
 use native.Mathlib.Omega.{arith}
@@ -22,7 +24,7 @@ overflow_cast-file c = omega (arith, c.type_inv.file 1)
 pub returns-then-not-is_panel : goal.returns-then-not-is_panel
 returns-then-not-is_panel c =
     let file = c.args.file.now in
-    sym (broken 2 (head_rules file) (sym c.is_panel.ensures ∙ not-true _ c.if-not-is_panel.true))
+    sym (broken 2 (head_rules file) (sym c.is_panel.ensures ∙ not-true _ (ap not c.if-not-is_panel.true)))
 
 pub returns-then-file-lt2 : goal.returns-then-file-lt2
 returns-then-file-lt2 c =
@@ -36,6 +38,6 @@ returns c =
     (others 4 (head_rules file)
     (keep (le-leb _ _ c.if-file-lt3.false)
     (keep (eq-eqb _ _ c.if-file-ne1.false)
-    (keep (sym c.is_panel.ensures ∙ not-false _ c.if-not-is_panel.false)
+    (keep (sym c.is_panel.ensures ∙ not-false _ (ap not c.if-not-is_panel.false))
     (keep (le-leb _ _ c.if-file-lt2.false) none))))
     ∙ and-true (leb (start_count file) 32))

@@ -31,5 +31,5 @@ returns c =
     let s = p.sized in
     slot_acted a.shape a.memory.now a.fill.slot c.slot_start-start.ensures p.slot_in
     (feeding a.shape.bytes a.shape.rows a.shape.stride a.fill a.chunk.now)
-    (λ raw size. length-fed a.shape.bytes a.shape.rows a.shape.stride s.some s.narrow s.within s.small a.fill (search (rules, c.well-formed)) raw size a.chunk.now)
+    (λ raw size. length-fed a.shape.bytes a.shape.rows a.shape.stride s.some s.narrow s.within s.small a.fill (search (rules, c.well_formed)) raw size a.chunk.now)
     c.feed.ensures

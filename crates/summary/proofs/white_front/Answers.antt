@@ -1,3 +1,5 @@
+use mathlib.Core.Bool.{not}
+use mathlib.Core.Path.{ap}
 use mathlib.Core.Path.{◌≡◌, refl}
 use Prim.Native.Nat.{◌-◌, ◌≤◌}
 use native.Mathlib.Omega.{arith}
@@ -14,4 +16,4 @@ pub loop-i-preserved : goal.loop-i-preserved
 loop-i-preserved c =
     let a = c.args in
     let l = c.loop-i in
-    (omega arith, white_next a.bytes.now a.at l.i 16 l.invariant.1 (passed c.sixteen_white.ensures c.if-not-sixteen_white.false))
+    (omega arith, white_next a.bytes.now a.at l.i 16 l.invariant.1 (passed c.sixteen_white.ensures (ap not c.if-not-sixteen_white.false)))

@@ -1,3 +1,5 @@
+use mathlib.Core.Bool.{not}
+use mathlib.Core.Path.{ap}
 use mathlib.Core.Path.{◌≡◌, refl}
 use mathlib.Core.Bool.{true}
 use Prim.Native.Nat.{◌+◌, ◌-◌, ◌≤◌}
@@ -15,14 +17,14 @@ loop-slot-init c = (omega arith, refl)
 pub returns-then-not-summary_good : goal.returns-then-not-summary_good
 returns-then-not-summary_good c =
     let a = c.args in
-    let bad = refused c.summary_good.ensures c.if-not-summary_good.true in
+    let bad = refused c.summary_good.ensures (ap not c.if-not-summary_good.true) in
     one_bad a.b a.h a.t4 a.n c.loop-slot.slot (omega arith) bad
 
 pub loop-slot-preserved : goal.loop-slot-preserved
 loop-slot-preserved c =
     let a = c.args in
     let l = c.loop-slot in
-    (omega arith, all_more l.slot (good_at a.b a.h a.t4) (passed c.summary_good.ensures c.if-not-summary_good.false) l.invariant.1)
+    (omega arith, all_more l.slot (good_at a.b a.h a.t4) (passed c.summary_good.ensures (ap not c.if-not-summary_good.false)) l.invariant.1)
 
 pub returns : goal.returns
 returns c =

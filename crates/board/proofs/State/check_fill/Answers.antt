@@ -9,4 +9,4 @@ use Rattle.board.proofs.State.check_fill.Goals as goal
 pub returns : goal.returns
 returns c =
     let a = c.args in
-    more_found (file_of a.self) (store_cases a.self a.memory-len) (fill_own a.self.store) c.check-checked.ensures refl c.fill_number-number.ensures
+    more_found (file_of a.self) (store_cases a.self a.memory_len) (fill_own a.self.store) c.check-checked.ensures refl c.fill_number-number.ensures

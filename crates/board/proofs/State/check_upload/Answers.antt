@@ -9,4 +9,4 @@ use Rattle.board.proofs.State.check_upload.Goals as goal
 pub returns : goal.returns
 returns c =
     let a = c.args in
-    more_found (file_of a.self) (store_cases a.self a.memory-len) (upload_own a.self.store a.slot) c.check-checked.ensures refl c.upload_number-number.ensures
+    more_found (file_of a.self) (store_cases a.self a.memory_len) (upload_own a.self.store a.slot) c.check-checked.ensures refl c.upload_number-number.ensures

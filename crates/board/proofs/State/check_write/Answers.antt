@@ -9,7 +9,7 @@ use Rattle.board.proofs.State.check_write.Goals as goal
 pub returns-then-number-ne0 : goal.returns-then-number-ne0
 returns-then-number-ne0 c =
     let a = c.args in
-    first_found (file_of a.self) (store_cases a.self a.memory-len) (write_own a.self.store (sizes_of a.self) a.slot a.out-len) c.check-checked.ensures c.if-number-ne0.true
+    first_found (file_of a.self) (store_cases a.self a.memory_len) (write_own a.self.store (sizes_of a.self) a.slot a.out_len) c.check-checked.ensures c.if-number-ne0.true
 
 pub write_number-number-requires : goal.write_number-number-requires
 write_number-number-requires c = (c.check-checked.ensures.plan c.if-number-ne0.false).sized
@@ -17,4 +17,4 @@ write_number-number-requires c = (c.check-checked.ensures.plan c.if-number-ne0.f
 pub returns : goal.returns
 returns c =
     let a = c.args in
-    write_found a.self a.memory-len a.slot a.out-len c.check-checked.ensures c.if-number-ne0.false c.write_number-number.ensures
+    write_found a.self a.memory_len a.slot a.out_len c.check-checked.ensures c.if-number-ne0.false c.write_number-number.ensures

@@ -17,16 +17,16 @@ returns-then-out-lt16 c =
 pub put_at-requires : goal.put_at-requires
 put_at-requires c =
     let c₁ = c in
-    let a = c₁.before.args in
+    let a = c₁.args in
     header-fits a.panel a.depth a.out.now c₁.make_header-header.ensures c.if-number-ne0.false c.if-out-lt16.false
 
 pub returns : goal.returns
 returns c =
     let c₂ = c in
-    let c₁ = c₂.before in
-    let a = c₁.before.args in
+    let c₁ = c₂ in
+    let a = c₁.args in
     search (
       rules,
-      header_given a.panel a.depth a.out.now c₁.make_header.ensures c₂.before.if1.false c₂.if-out-lt16.false
+      header_given a.panel a.depth a.out.now c₁.make_header-header.ensures c₂.if-number-ne0.false c₂.if-out-lt16.false
           c.put_at.ensures,
     )

@@ -1,4 +1,6 @@
 -- `slots_valid`: the fill, then the summaries. Assumes nothing.
+use mathlib.Core.Bool.{not}
+use mathlib.Core.Path.{ap}
 use Rattle.store.proofs.Conditions.{fill_fails, summaries_last}
 use borrow.Author.Rules.{rules}
 use Rattle.store.proofs.checks.slots_valid.Goals as goal
@@ -9,7 +11,7 @@ fill_valid-requires c = c.requires.0
 pub returns-then-not-fill_valid : goal.returns-then-not-fill_valid
 returns-then-not-fill_valid c =
     let a = c.args in
-    fill_fails a.shape a.store c.fill_valid.ensures c.if-not-fill_valid.true
+    fill_fails a.shape a.store c.fill_valid.ensures (ap not c.if-not-fill_valid.true)
 
 pub summaries_good-requires : goal.summaries_good-requires
 summaries_good-requires c =
@@ -19,4 +21,4 @@ summaries_good-requires c =
 pub returns : goal.returns
 returns c =
     let a = c.args in
-    summaries_last a.shape a.store c.fill_valid.ensures c.if-not-fill_valid.false c.summaries_good.ensures
+    summaries_last a.shape a.store c.fill_valid.ensures (ap not c.if-not-fill_valid.false) c.summaries_good.ensures
