@@ -81,8 +81,7 @@ pub extern "C" fn region_by_bytes(
     payload: &[u8],
     picture: &mut [u8],
 ) -> u8
-    ensures { (result, picture.new)
-        ≡ picture_region x y width height payload.now picture.old }
+    ensures { (result, picture.new) ≡ picture_region x y width height payload.now picture.old }
 {
     let number = refusal(x, y, width, height, payload, picture);
     if number != 0 {

@@ -76,7 +76,8 @@ fn table_checksum(table: &[u32; 256], start: u16, bytes: &[u8]) -> u16
 
 // The same checksum as `checksum`, on the table.
 pub fn checksum_by_table(start: u16, bytes: &[u8]) -> u16
-    ensures { result ≡ checksum_from start bytes.now }
+    ensures { result
+        ≡ checksum_from start bytes.now }
 {
     table_checksum(&table::TABLE, start, bytes)
 }

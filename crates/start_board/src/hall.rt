@@ -82,7 +82,8 @@ pub extern "C" fn epd_hall_checksum(start: u16, bytes: &[u8]) -> u16
 // The same, as document 003 prints it.
 #[unsafe(no_mangle)]
 pub extern "C" fn epd_hall_checksum_printed(start: u16, bytes: &[u8]) -> u16
-    ensures { result ≡ checksum_from start bytes.now }
+    ensures { result
+        ≡ checksum_from start bytes.now }
 {
     hall_checksum::checksum(start, bytes)
 }
