@@ -16,21 +16,20 @@ PYTHON = python3 -B
 demo:
 	@$(PYTHON) -m demo.board --only-arguments $(PANELS)
 	@mkdir -p target
-	@echo "Proving and building the programs (some minutes the first time; a line for each crate) ..."
-	@set -o pipefail; rt check settings_list replay 2>&1 | tee target/demo.log | { grep --line-buffered '^rt: ' || true; } \
-	    || { cat target/demo.log; exit 1; }
+	@echo "Proving and building the programs (some minutes the first time) ..."
+	@tools/build.sh settings_list replay >target/demo.log 2>&1 || { cat target/demo.log; exit 1; }
 	@$(PYTHON) -m demo.board $(PANELS)
 	@$(if $(PANELS),,$(MAKE) --no-print-directory demo-finish)
 
 # The finish arch panels alone.
 demo-finish:
 	@mkdir -p target/demo
-	@rt staticlib start_board >target/demo.log 2>&1 || { cat target/demo.log; exit 1; }
+	@tools/build.sh start_board >target/demo.log 2>&1 || { cat target/demo.log; exit 1; }
 	@$(CC) $(CFLAGS) -Iinclude -o target/demo/finish_things demo/finish_things.c $(LIBRARY)
 	@$(PYTHON) -m demo.finish
 
 layout:
-	rt check layout_list
+	tools/build.sh layout_list
 	@$(PYTHON) -m demo.layout $(LIST)
 
 test:
@@ -38,12 +37,10 @@ test:
 
 # What the tests run: the programs and the static libraries. Only proved crates are built, and what is proved already is not proved again.
 build:
-	rt check start_board update_loop by_dots settings_list bitmap_normal bitmap_mend layout_list replay
+	tools/build.sh start_board update_loop by_dots settings_list bitmap_normal bitmap_mend layout_list replay
 
 libraries:
-	rt staticlib start_board
-	rt staticlib update_loop
-	rt staticlib by_dots
+	tools/build.sh start_board update_loop by_dots
 
 # Two groups at a time; what a group prints stays together.
 tests: build
@@ -51,7 +48,7 @@ tests: build
 	@$(MAKE) --no-print-directory --jobs=2 --output-sync=target test-store test-programs test-c
 
 # The calls for C, and the update loop.
-test-c: libraries
+test-c:
 	@echo "== the three C calls against an independent implementation"
 	$(CC) $(CFLAGS) -Iinclude -o $(OUT)/calls tests/calls/compare.c tests/calls/reference.c $(LIBRARY)
 	$(OUT)/calls
@@ -74,7 +71,7 @@ test-c: libraries
 	$(PYTHON) -m bench.run --compare
 
 # The programs, but for `replay`.
-test-programs: libraries
+test-programs:
 	@echo "== the listing program against an independent implementation"
 	$(PYTHON) -m tests.listing.compare target/bin/settings_list
 	@echo "== bitmaps made by other tools, and damaged ones"
@@ -107,11 +104,11 @@ bench: libraries
 	$(PYTHON) -m bench.run
 
 ghosting:
-	rt check replay
+	tools/build.sh replay
 	$(PYTHON) -m ghosting.season
 
 gate-costs:
 	$(PYTHON) -m bench.gate
 
 clean:
-	rm -rf target
+	rm -rf target crates/*/out

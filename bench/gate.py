@@ -3,7 +3,7 @@
 Usage, from the repository's root: python3 -m bench.gate [DIR | --check]. With DIR, a checkout of the state before a change, it writes nothing
 and prints what each crate costs there and here. `--check` only says whether the page has every crate and its number of edits.
 
-A crate's check is the CPU time, user and system, of `rt check CRATE` where all below it is proved, less that of a second call, which finds
+A crate's check is the CPU time, user and system, of `rt check` where all below it is proved, less that of a second call, which finds
 nothing to prove. Two rounds run side by side, as two checks do in the gate (.ci/run), each crate after crate in a temporary folder of its own
 in memory; target/ is left alone. On the page the lower time counts. There and here are the two rounds of one run, since a machine is
 faster at one time than at another.
@@ -47,8 +47,8 @@ def one_round(tree):
         shutil.copytree(f"{tree}/crates", f"{folder}/crates")
         shutil.copy(f"{tree}/crates.txt", folder)
         for crate in (crate for floor in floors(read(f"{tree}/crates.txt")) for crate in floor):
-            check = ["rt", "check", crate]
-            costs[crate] = cpu(check, folder) - cpu(check, folder)
+            check, at = ["rt", "check"], f"{folder}/crates/{crate}"
+            costs[crate] = cpu(check, at) - cpu(check, at)
             print(f"{tree}: {crate} {costs[crate]:.1f} s", flush=True)
     return costs
 

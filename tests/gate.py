@@ -9,13 +9,14 @@ import subprocess
 import sys
 import tempfile
 
-GOOD = "rt: ok, 2 crates proved, 1 must-fail edits refused\n3 passed, 0 failed"
+GOOD = "rt: ok; handles allowed: none; must-fail edits: 1 refused; every proof was done in this run\n3 passed, 0 failed"
 # what `rt ci` says, its status, the status of the tests; whether all passed, and whether the tests are run
 CASES = {
     "all passed": (GOOD, 0, 0, True, True),
     "a test fails": (GOOD, 0, 1, False, True),
     "a crate is not proved": ("rt: one NOT PROVED (exit 1, 2 s)\nrt: FAILED: one\n2 passed, 1 failed", 1, 0, False, False),
     "an edit is not refused": ("must-fail one/edit: NOT REFUSED\nrt: FAILED: one/edit\n2 passed, 1 failed", 1, 0, False, False),
+    "an edit is bad": (GOOD.replace("1 refused", "1 refused, 1 bad"), 0, 0, False, False),
     "a crate is not listed": ("in no crate that crates.txt lists\nrt: FAILED: lost-files\n3 passed, 1 failed", 1, 0, False, False),
     "the toolchain fails": ("rt: no toolchain for this machine", 2, 0, False, False),
     "the toolchain fails after its last line": (GOOD, 2, 0, False, False),

@@ -174,27 +174,22 @@ def asks_nothing(name):
     return bool(alias) and "%s-reads.Asked\n" % alias[1] in tied
 
 
-def camel(name):
-    head, *rest = name.split("_")
-    return head + "".join(word.capitalize() for word in rest)
-
-
 def main():
     try_sample()
-    wanted = {camel(name): name for name in Crate(os.path.join(BOARD, "src")).calls()}
+    wanted = Crate(os.path.join(BOARD, "src")).calls()
     failed = 0
     for data in ("Call", "Step"):
         have, path = constructors(data)
-        for name in sorted(set(wanted) - have):
-            print("board::%s has no place in %s of %s" % (wanted[name], data, path))
-        for name in sorted(have - set(wanted)):
+        for name in sorted(wanted - have):
+            print("board::%s has no place in %s of %s" % (name, data, path))
+        for name in sorted(have - wanted):
             print("%s of %s has %s, and no public call has that name" % (data, path, name))
-        failed += len(set(wanted) ^ have)
-    for name in sorted(wanted.values()):
+        failed += len(wanted ^ have)
+    for name in sorted(wanted):
         if not asks_nothing(name):
             print("board::%s has no line in AskNothing of proofs/Tied.antt" % name)
             failed += 1
-    print("public calls on the store: %s" % ", ".join(sorted(wanted.values())))
+    print("public calls on the store: %s" % ", ".join(sorted(wanted)))
     print("%d passed, %d failed" % (3 * len(wanted) - failed, failed))
     sys.exit(1 if failed or not wanted else 0)
 
