@@ -7,36 +7,30 @@ use Rattle.listing.specs.Text.{ascii}
 use Rattle.listing.specs.Listing.{panel_line}
 use Rattle.listing.proofs.Appended.{appended_next, appended_as}
 use Rattle.listing.proofs.File.{panel_short, section_short, section_lines_lem}
-use borrow.Author.Rules.{rules}
 use Rattle.listing.proofs.put_file.Goals as goal
 
 pub put_section-start-requires : goal.put_section-start-requires
 put_section-start-requires c =
-    let panel-ends : c.put_panel_line-head.result ≤ 11 = omega (arith, c.put_panel_line-head.ensures.end, panel_short _ c.requires.1.start.readable.a_panel) in
-    let panel = c in
-    (panel.requires.1.start.readable, omega arith, omega (arith, panel-ends))
+    let head : c.put_panel_line-head.result ≤ 11 =
+    omega (arith, c.put_panel_line-head.ensures.end, panel_short _ c.requires.1.start.readable.a_panel) in
+    (c.requires.1.start.readable, omega arith, omega arith)
 
 pub put_section-requires : goal.put_section-requires
 put_section-requires c =
-    let panel-ends : c.put_panel_line-head.result ≤ 11 = omega (arith, c.put_panel_line-head.ensures.end, panel_short _ c.requires.1.start.readable.a_panel) in
-    let start-ends : c.put_section-start.result ≤ 1078 = let panel-ends : c.put_panel_line-head.result ≤ 11 = omega (arith, c.put_panel_line-head.ensures.end, panel_short _ c.requires.1.start.readable.a_panel) in
-    let panel = c in
-    let short = section_short (ascii "start ") panel.requires.1.start.readable (omega arith) in
-    omega (arith, panel-ends, c.put_section-start.ensures.end, short) in
-    let start = c in
-    (start.requires.1.stop.readable, omega arith, omega (arith, start-ends))
+    let head : c.put_panel_line-head.result ≤ 11 =
+    omega (arith, c.put_panel_line-head.ensures.end, panel_short _ c.requires.1.start.readable.a_panel) in
+    let short = section_short (ascii "start ") c.requires.1.start.readable (omega arith) in
+    let start : c.put_section-start.result ≤ 1078 = omega (arith, c.put_section-start.ensures.end, short) in
+    (c.requires.1.stop.readable, omega arith, omega arith)
 
 pub returns : goal.returns
 returns c =
-    let panel-ends : c.put_panel_line-head.result ≤ 11 = omega (arith, c.put_panel_line-head.ensures.end, panel_short _ c.requires.1.start.readable.a_panel) in
-    let start-ends : c.put_section-start.result ≤ 1078 = let panel-ends : c.put_panel_line-head.result ≤ 11 = omega (arith, c.put_panel_line-head.ensures.end, panel_short _ c.requires.1.start.readable.a_panel) in
-    let panel = c in
-    let short = section_short (ascii "start ") panel.requires.1.start.readable (omega arith) in
-    omega (arith, panel-ends, c.put_section-start.ensures.end, short) in
-    let start = c in
-    let panel = start in
-    let plan = panel.requires.1 in
-    let one = appended_as (ap panel_line plan.panel_is) panel.put_panel_line-head.ensures in
-    let two = appended_as (section_lines_lem (ascii "start ") plan.start) start.put_section-start.ensures in
+    let head : c.put_panel_line-head.result ≤ 11 =
+    omega (arith, c.put_panel_line-head.ensures.end, panel_short _ c.requires.1.start.readable.a_panel) in
+    let short = section_short (ascii "start ") c.requires.1.start.readable (omega arith) in
+    let start : c.put_section-start.result ≤ 1078 = omega (arith, c.put_section-start.ensures.end, short) in
+    let plan = c.requires.1 in
+    let one = appended_as (ap panel_line plan.panel-is) c.put_panel_line-head.ensures in
+    let two = appended_as (section_lines_lem (ascii "start ") plan.start) c.put_section-start.ensures in
     let three = appended_as (section_lines_lem (ascii "stop ") plan.stop) c.put_section.ensures in
-    appended_next (appended_next one two (omega (arith, panel-ends))) three (omega (arith, start-ends))
+    appended_next (appended_next one two (omega arith)) three (omega arith)

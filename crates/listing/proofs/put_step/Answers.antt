@@ -9,7 +9,6 @@ use Rattle.listing.specs.Listing.{step_line}
 use Rattle.listing.proofs.Appended.{appended_none, appended_as}
 use Rattle.settings.proofs.Steps.{data_short}
 use Rattle.listing.proofs.Steps.{malformed-line}
-use borrow.Author.Rules.{rules}
 use Rattle.listing.proofs.put_step.Goals as goal
 
 pub data_of-bytes-requires : goal.data_of-bytes-requires
@@ -22,10 +21,8 @@ put_write_line-requires c =
 
 pub put_number_line-requires : goal.put_number_line-requires
 put_number_line-requires c =
-    let step = c in
-    let a = step.args in
-    let wait = c.kind-in-Wait-1.given in
-    let short = (step_wait a.panel wait.0.0 (drop a.from a.file.now) (sym step.step_at-kind.ensures ∙ wait.1)).2 in
+    let a = c.args in
+    let short = (step_wait a.panel c.in-Wait.ms (drop a.from a.file.now) (sym c.step_at-kind.ensures ∙ c.in-Wait.is)).2 in
     (omega arith, omega arith)
 
 pub returns-in-Write : goal.returns-in-Write
@@ -33,10 +30,8 @@ returns-in-Write c = appended_as (ap step_line (sym c.data_of-bytes.ensures)) c.
 
 pub returns-in-Wait : goal.returns-in-Wait
 returns-in-Wait c =
-    let wait = c in
-    let step = wait in
-    let a = step.args in
-    let e = (step_wait a.panel wait.in-Wait.ms (drop a.from a.file.now) (sym step.step_at-kind.ensures ∙ wait.in-Wait.is)).0 in
+    let a = c.args in
+    let e = (step_wait a.panel c.in-Wait.ms (drop a.from a.file.now) (sym c.step_at-kind.ensures ∙ c.in-Wait.is)).0 in
     appended_as (ap step_line (sym e)) c.put_number_line.ensures
 
 pub returns-in-Malformed : goal.returns-in-Malformed

@@ -11,10 +11,10 @@ waits_from-waits-requires c =
     (c.requires.0.stop.readable, omega (arith, (at-stop a.file.now a.run a.k c.requires.1.valid).few, c.requires.0.stop.count_is))
 
 pub overflow_mul-plan : goal.overflow_mul-plan
-overflow_mul-plan c = omega (arith, c.requires.0.sized.frames_few)
+overflow_mul-plan c = omega (arith, c.requires.0.sized.frames-few)
 
 pub overflow_add-plan : goal.overflow_add-plan
-overflow_add-plan c = omega (arith, c.requires.0.sized.frames_few, c.waits_from-waits.ensures.1)
+overflow_add-plan c = omega (arith, c.requires.0.sized.frames-few, c.waits_from-waits.ensures.1)
 
 pub remaining-by_frames-requires : goal.remaining-by_frames-requires
 remaining-by_frames-requires c =

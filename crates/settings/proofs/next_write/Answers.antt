@@ -17,12 +17,6 @@ use Rattle.settings.proofs.Steps.{length_steps, Turn, next_fits}
 use Rattle.settings.proofs.Waits.{past_wait, no_wait_here, write_here}
 use Rattle.settings.proofs.next_write.Goals as goal
 
--- the kinds 0 and 2 are no waits
-other-kind : (kind : Kind) → OneOf (0 ∷ 2 ∷ []) (tag_of the_type kind) → (ms : ℕ) → kind ≡ Wait ms → ⊥
-other-kind kind keys ms e =
-    let tag : tag_of the_type kind ≡ 1 = ap (tag_of the_type) e in
-    ⊎_elim (λ z. omega arith) (λ z. omega arith) keys
-
 pub loop-left-init : goal.loop-left-init
 loop-left-init c = (c.requires.1, omega arith, refl, omega arith, omega arith)
 
@@ -36,7 +30,7 @@ returns-in_default c =
     let k = c.step_at-kind.result in
     let turn : Turn a.panel a.file.now l.at l.left k (kind_size k) =
     record { more = c.loop-left-test.true; read = c.step_at-kind.ensures; size = refl } in
-    let other = other-kind k c.in-Wait.keys2 in
+    let other = c.in_default.not-Wait in
     record {
       waits = omega (arith, no_wait_here turn other, l.invariant.1);
       rest = sym (write_here turn other) ∙ l.invariant.2;

@@ -21,9 +21,9 @@ returns c =
     let a = c.args in
     let b = length a.row.now in
     let bytes = line b a.rows a.stage a.y (row_dot a.row.now) in
-    let o = put-head.new.0 in
+    let o = put-head.new.out in
     let put = c.put_line in
-    let part : take 3 o ++ (put.new.0 ++ drop (length o - 3) (drop 3 o)) ≡ overlay_at 3 bytes o =
+    let part : take 3 o ++ (put.new.out ++ drop (length o - 3) (drop 3 o)) ≡ overlay_at 3 bytes o =
     rw put.ensures (overlay_part 3 (length o - 3) bytes o refl) in
     let head = register_write 0x0A [] in
     let after = register_write 0x02 (0x2F ∷ []) in (
