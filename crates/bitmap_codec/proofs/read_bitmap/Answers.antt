@@ -19,6 +19,7 @@ loop-y-init c =
       omega arith,
       s.requires.5,
       rw zero-mul (sym (raw_picture a.b a.h s.requires.0 a.raw.now (s.requires.5, λ k. (known.type_inv.raw k).fits))),
+      λ k. (known.type_inv.raw k).fits,
     )
 
 pub overflow_mul-j : goal.overflow_mul-j
@@ -43,11 +44,12 @@ loop-y-preserved c =
     let s = known in
     let a = s.args in
     let put = rw p.palette_of-palette.ensures at c.put_dots.ensures in
-    let rows = rows_picture a.b a.h s.requires.0 a.raw.now (s.requires.5, λ k. (known.type_inv.raw k).fits) in (
+    let rows = rows_picture a.b a.h s.requires.0 a.raw.now (s.requires.5, l.invariant.3) in (
       omega arith,
       search rules,
       read_next_lem a.b a.h a.s s.requires.0 s.requires.2 a.file.now (λ k. (known.type_inv.file k).fits)
           (picture_of a.b a.h a.raw.now) rows s.requires.6 l.y c₁.loop-y-test.true l.invariant.2 put,
+      l.invariant.3,
     )
 
 pub returns : goal.returns
@@ -56,6 +58,6 @@ returns c =
     let known = c in
     let s = known in
     let a = s.args in
-    let rows = rows_picture a.b a.h s.requires.0 a.raw.now (s.requires.5, λ k. (known.type_inv.raw k).fits) in
+    let rows = rows_picture a.b a.h s.requires.0 a.raw.now (s.requires.5, l.invariant.3) in
     let e : l.y ≡ a.h = omega arith in
     rw (e, read_all a.b a.h a.s a.file.now (picture_of a.b a.h a.raw.now) rows.0) at l.invariant.2

@@ -24,7 +24,7 @@ returns-then-came-eq0 c =
 pub kept_begins-requires : goal.kept_begins-requires
 kept_begins-requires c =
     let s = c in
-    (s.requires.0, s.requires.1, s.requires.2, omega (arith, slice-aggregate-kept-begins c))
+    (s.requires.0, s.requires.1, s.requires.2, omega arith)
 
 pub returns : goal.returns
 returns c =

@@ -1,7 +1,7 @@
 -- A refused test is one of the list; past the others the last decides.
 -- Assumes nothing.
-use mathlib.Core.Bool.{not}
 use mathlib.Core.Path.{refl, sym, ap, ◌∙◌}
+use mathlib.Core.Bool.{not}
 use Prim.Native.Nat.{ℕ}
 use native.Mathlib.Omega.{arith}
 use borrow.Author.Tests.{le-leb, lt-leb, eq-eqb}
@@ -29,7 +29,7 @@ returns-then-file_length-came c =
 pub zero_from-requires : goal.zero_from-requires
 zero_from-requires c =
     let a = c.args in
-    omega (arith, slice-aggregate-zero-from (c), c.kept_count.ensures.1, part_le a.s (omega arith) a.fill.came)
+    omega (arith, c.kept_count.ensures.1, part_le a.s (omega arith) a.fill.came)
 
 pub returns-then-not-zero_from : goal.returns-then-not-zero_from
 unfolding fill_valid
@@ -45,7 +45,7 @@ returns c =
     let count = ap (λ (k : ℕ). all_zero (drop k a.fill.kept)) (sym c.kept_count.ensures.0) in
     let few = le-leb a.fill.came (file_length a.h a.s)
     (omega (arith, c.file_length.ensures)) in
-    let room = eq-eqb (length a.fill.kept) header_length (sym (slice-aggregate-zero-from c)) in
+    let room = eq-eqb (length a.fill.kept) header_length (search rules) in
     let zeros = count ∙ passed c.zero_from.ensures (ap not c.if-not-zero_from.false) in
     let kept = keep (passed c.slot_valid.ensures
     (ap not c.if-not-slot_valid.false)) (keep few (keep room (keep zeros (keep refl none)))) in

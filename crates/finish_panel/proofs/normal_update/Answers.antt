@@ -3,7 +3,6 @@
 use mathlib.Core.Path.{◌≡◌, refl}
 use mathlib.Core.List.{List}
 use native.Mathlib.Omega.{arith}
-use borrow.Author.Rules.{rules}
 use lib.ListN.{length, replicate}
 use mir.Syntax.{w32}
 use mir.Val.{to_z, of_z}
@@ -11,7 +10,7 @@ use mir.Facts.{to_z-of_z}
 use Rattle.lists.specs.Rules.{Case, first_of}
 use Rattle.lists.proofs.Rules.{None, none_of}
 use Rattle.finish_order.specs.Order.{Thing, things_of, thing_at}
-use Rattle.finish_rules.specs.Rules.{normal_good, normal_index, refusals, Accepted}
+use Rattle.finish_rules.specs.Rules.{normal_good, normal_index, refusals}
 use Rattle.finish_panel.specs.Update.{normal_update}
 use Rattle.finish_rules.proofs.Rules.{accepted, picture_size}
 use Rattle.finish_panel.proofs.Update.{refuse, give}
@@ -20,62 +19,41 @@ use Rattle.finish_panel.proofs.normal_update.Goals as goal
 pub returns-then-number-ne0 : goal.returns-then-number-ne0
 unfolding normal_update
 returns-then-number-ne0 c =
-    let handed : let t = c.args.temperature in to_z w32 (of_z w32 t) ≡ t = to_z-of_z c.ranges.temperature in
-    let number : c.refusal-number.result ≡ first_of (cases c) (λ n. n) 0 = let handed : let t = c.args.temperature in to_z w32 (of_z w32 t) ≡ t = to_z-of_z c.ranges.temperature in
-    rw (c.normal_good.ensures, handed) at c.refusal-number.ensures in
-    refuse (thing c) _ (cases c) number c.if-number-ne0.true
+    let a = c.args in
+    let handed : to_z w32 (of_z w32 a.temperature) ≡ a.temperature = to_z-of_z c.ranges.temperature in
+    let cases : List Case = refusals a.otp.now (normal_good a.temperature) (length a.new.now) (length a.new.now) in
+    let number : c.refusal-number.result ≡ first_of cases (λ n. n) 0 = rw (c.normal_good.ensures, handed) at c.refusal-number.ensures in
+    let thing : Thing = thing_at (things_of a.otp.now (normal_index a.temperature) a.new.now (replicate (length a.new.now) 0)) a.given in
+    refuse thing _ cases number c.if-number-ne0.true
 
 pub normal_index-requires : goal.normal_index-requires
 normal_index-requires c =
-    let handed : let t = c.args.temperature in to_z w32 (of_z w32 t) ≡ t = to_z-of_z c.ranges.temperature in
-    let number : c.refusal-number.result ≡ first_of (cases c) (λ n. n) 0 = let handed : let t = c.args.temperature in to_z w32 (of_z w32 t) ≡ t = to_z-of_z c.ranges.temperature in
-    rw (c.normal_good.ensures, handed) at c.refusal-number.ensures in
-    let free : None (cases c) = let handed : let t = c.args.temperature in to_z w32 (of_z w32 t) ≡ t = to_z-of_z c.ranges.temperature in
-    let number : c.refusal-number.result ≡ first_of (cases c) (λ n. n) 0 = let handed : let t = c.args.temperature in to_z w32 (of_z w32 t) ≡ t = to_z-of_z c.ranges.temperature in
-    rw (c.normal_good.ensures, handed) at c.refusal-number.ensures in
-    none_of (cases c) refl number c.if-number-ne0.false in
-    let facts : let a = c.args in
-    Accepted a.otp.now (normal_good a.temperature) (length a.new.now) (length a.new.now) = let handed : let t = c.args.temperature in to_z w32 (of_z w32 t) ≡ t = to_z-of_z c.ranges.temperature in
-    let number : c.refusal-number.result ≡ first_of (cases c) (λ n. n) 0 = let handed : let t = c.args.temperature in to_z w32 (of_z w32 t) ≡ t = to_z-of_z c.ranges.temperature in
-    rw (c.normal_good.ensures, handed) at c.refusal-number.ensures in
-    let free : None (cases c) = let handed : let t = c.args.temperature in to_z w32 (of_z w32 t) ≡ t = to_z-of_z c.ranges.temperature in
-    let number : c.refusal-number.result ≡ first_of (cases c) (λ n. n) 0 = let handed : let t = c.args.temperature in to_z w32 (of_z w32 t) ≡ t = to_z-of_z c.ranges.temperature in
-    rw (c.normal_good.ensures, handed) at c.refusal-number.ensures in
-    none_of (cases c) refl number c.if-number-ne0.false in
-    accepted _ _ _ _ free in
-    rw handed facts.in_range_lem
+    let a = c.args in
+    let handed : to_z w32 (of_z w32 a.temperature) ≡ a.temperature = to_z-of_z c.ranges.temperature in
+    let cases : List Case = refusals a.otp.now (normal_good a.temperature) (length a.new.now) (length a.new.now) in
+    let number : c.refusal-number.result ≡ first_of cases (λ n. n) 0 = rw (c.normal_good.ensures, handed) at c.refusal-number.ensures in
+    let free : None cases = none_of cases refl number c.if-number-ne0.false in
+    let f = accepted _ _ _ _ free in
+    rw handed f.in_range_lem
 
 pub give_next-requires : goal.give_next-requires
 give_next-requires c =
-    let handed : let t = c.args.temperature in to_z w32 (of_z w32 t) ≡ t = to_z-of_z c.ranges.temperature in
-    let number : c.refusal-number.result ≡ first_of (cases c) (λ n. n) 0 = let handed : let t = c.args.temperature in to_z w32 (of_z w32 t) ≡ t = to_z-of_z c.ranges.temperature in
-    rw (c.normal_good.ensures, handed) at c.refusal-number.ensures in
-    let free : None (cases c) = let handed : let t = c.args.temperature in to_z w32 (of_z w32 t) ≡ t = to_z-of_z c.ranges.temperature in
-    let number : c.refusal-number.result ≡ first_of (cases c) (λ n. n) 0 = let handed : let t = c.args.temperature in to_z w32 (of_z w32 t) ≡ t = to_z-of_z c.ranges.temperature in
-    rw (c.normal_good.ensures, handed) at c.refusal-number.ensures in
-    none_of (cases c) refl number c.if-number-ne0.false in
-    let facts : let a = c.args in
-    Accepted a.otp.now (normal_good a.temperature) (length a.new.now) (length a.new.now) = let handed : let t = c.args.temperature in to_z w32 (of_z w32 t) ≡ t = to_z-of_z c.ranges.temperature in
-    let number : c.refusal-number.result ≡ first_of (cases c) (λ n. n) 0 = let handed : let t = c.args.temperature in to_z w32 (of_z w32 t) ≡ t = to_z-of_z c.ranges.temperature in
-    rw (c.normal_good.ensures, handed) at c.refusal-number.ensures in
-    let free : None (cases c) = let handed : let t = c.args.temperature in to_z w32 (of_z w32 t) ≡ t = to_z-of_z c.ranges.temperature in
-    let number : c.refusal-number.result ≡ first_of (cases c) (λ n. n) 0 = let handed : let t = c.args.temperature in to_z w32 (of_z w32 t) ≡ t = to_z-of_z c.ranges.temperature in
-    rw (c.normal_good.ensures, handed) at c.refusal-number.ensures in
-    none_of (cases c) refl number c.if-number-ne0.false in
-    accepted _ _ _ _ free in
-    let f = facts in (f.otp_whole, (picture_size _ f.picture).1, omega arith)
+    let a = c.args in
+    let handed : to_z w32 (of_z w32 a.temperature) ≡ a.temperature = to_z-of_z c.ranges.temperature in
+    let cases : List Case = refusals a.otp.now (normal_good a.temperature) (length a.new.now) (length a.new.now) in
+    let number : c.refusal-number.result ≡ first_of cases (λ n. n) 0 = rw (c.normal_good.ensures, handed) at c.refusal-number.ensures in
+    let free : None cases = none_of cases refl number c.if-number-ne0.false in
+    let f = accepted _ _ _ _ free in
+    let size = picture_size _ f.picture in
+    (f.otp_whole, size.1, omega arith)
 
 pub returns : goal.returns
 unfolding normal_update
 returns c =
-    let handed : let t = c.args.temperature in to_z w32 (of_z w32 t) ≡ t = to_z-of_z c.ranges.temperature in
-    let number : c.refusal-number.result ≡ first_of (cases c) (λ n. n) 0 = let handed : let t = c.args.temperature in to_z w32 (of_z w32 t) ≡ t = to_z-of_z c.ranges.temperature in
-    rw (c.normal_good.ensures, handed) at c.refusal-number.ensures in
-    let free : None (cases c) = let handed : let t = c.args.temperature in to_z w32 (of_z w32 t) ≡ t = to_z-of_z c.ranges.temperature in
-    let number : c.refusal-number.result ≡ first_of (cases c) (λ n. n) 0 = let handed : let t = c.args.temperature in to_z w32 (of_z w32 t) ≡ t = to_z-of_z c.ranges.temperature in
-    rw (c.normal_good.ensures, handed) at c.refusal-number.ensures in
-    none_of (cases c) refl number c.if-number-ne0.false in
-    let else1 = c in
-    let at = else1 in
-    give (thing at) _ (cases at) free
-    (rw (c.normal_index.ensures, handed) at c.give_next.ensures)
+    let a = c.args in
+    let handed : to_z w32 (of_z w32 a.temperature) ≡ a.temperature = to_z-of_z c.ranges.temperature in
+    let cases : List Case = refusals a.otp.now (normal_good a.temperature) (length a.new.now) (length a.new.now) in
+    let number : c.refusal-number.result ≡ first_of cases (λ n. n) 0 = rw (c.normal_good.ensures, handed) at c.refusal-number.ensures in
+    let free : None cases = none_of cases refl number c.if-number-ne0.false in
+    let thing : Thing = thing_at (things_of a.otp.now (normal_index a.temperature) a.new.now (replicate (length a.new.now) 0)) a.given in
+    give thing _ cases free (rw (c.normal_index.ensures, handed) at c.give_next.ensures)
