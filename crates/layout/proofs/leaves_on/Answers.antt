@@ -1,7 +1,6 @@
 use mathlib.Core.Bool.{not}
 use mathlib.Core.Path.{◌≡◌, refl, sym, ap, ◌∙◌}
 use mathlib.Core.Bool.{true}
-use mathlib.Core.Logic.{⊎_elim}
 use Prim.Native.Nat.{◌-◌, ◌≤◌}
 use borrow.Author.Tests.{eq-eqb, ne_eqb, not-false}
 use Rattle.lists.specs.Rules.{all_below}
@@ -14,6 +13,7 @@ use Rattle.layout.proofs.Answer.{room, leaf_more, inner_more, size_more, placed_
 use borrow.Author.Rules.{rules}
 use native.Mathlib.Omega.{arith}
 use Rattle.layout.proofs.leaves_on.Goals as goal
+use Rattle.layout.proofs.leaves_on.Goals.{then-list-at-eq0, else-list-at-eq0}
 
 pub returns-then-chart : goal.returns-then-chart
 returns-then-chart c =
@@ -76,12 +76,14 @@ loop-c-preserved c =
       l.invariant.1,
       c.next_box-at.ensures ∙ next_start list l.c l.at l.invariant.2,
       size_more list a.width a.height l.c dots l.invariant.3,
-      ⊎_elim
-          (λ w. w.2 ∙ w.1.ensures ∙ rw place (leaf_more list a.width a.height l.c l.answer l.invariant.4 (omega (arith, few))
-          (eq-eqb (child_count list (start_of list l.c)) 0 (rw l.invariant.2 at w.0.taken))))
-          (λ w. w.1 ∙ inner_more list a.width a.height l.c l.answer l.invariant.4
-          (ne_eqb (child_count list (start_of list l.c)) 0 (rw l.invariant.2 at w.0.left)))
-          c.if-list-at-eq0.branch,
+      elim c.if-list-at-eq0.branch [
+        | then-list-at-eq0 w ↦
+            w.answer-is ∙ w.with_leaf-answer.ensures ∙ rw place (leaf_more list a.width a.height l.c l.answer l.invariant.4 (omega (arith, few))
+            (eq-eqb (child_count list (start_of list l.c)) 0 (rw l.invariant.2 at w.if-list-at-eq0.true)))
+        | else-list-at-eq0 w ↦
+            w.answer-is ∙ inner_more list a.width a.height l.c l.answer l.invariant.4
+            (ne_eqb (child_count list (start_of list l.c)) 0 (rw l.invariant.2 at w.if-list-at-eq0.false))
+      ],
     )
 
 pub returns : goal.returns

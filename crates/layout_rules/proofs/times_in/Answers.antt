@@ -1,5 +1,4 @@
 use mathlib.Core.Path.{◌≡◌, refl, ◌∙◌}
-use mathlib.Core.Logic.{⊎_elim}
 use Prim.Native.Nat.{◌+◌, ◌-◌, ◌≤◌}
 use lib.ListN.{get_or}
 use borrow.Author.Tests.{eq-eqb, ne_eqb}
@@ -9,6 +8,7 @@ use native.Mathlib.Omega.{arith}
 use Rattle.counting.specs.Below.{count_below}
 use Rattle.counting.proofs.Below.{counted, skipped}
 use Rattle.layout_rules.proofs.times_in.Goals as goal
+use Rattle.layout_rules.proofs.times_in.Goals.{then-wide-c, else-wide-c}
 
 pub loop-j-init : goal.loop-j-init
 loop-j-init c = (omega arith, c.wide-k.ensures.0, omega arith, omega arith, refl)
@@ -24,11 +24,13 @@ loop-j-preserved c =
       omega arith,
       l.invariant.1,
       l.invariant.2,
-      ⊎_elim (λ w. omega (arith, w.1)) (λ w. omega (arith, w.1)) c.if-wide-c.branch,
-      ⊎_elim
-          (λ w. w.1 ∙ counted l.j test l.times l.invariant.4 (eq-eqb child a.c (omega (arith, e, w.0.taken))))
-          (λ w. w.1 ∙ skipped l.j test l.times l.invariant.4 (ne_eqb child a.c (λ q. w.0.left (omega (arith, e, q)))))
-          c.if-wide-c.branch,
+      elim c.if-wide-c.branch [ then-wide-c w ↦ omega arith | else-wide-c w ↦ omega arith ],
+      elim c.if-wide-c.branch [
+        | then-wide-c w ↦
+            w.times-is ∙ counted l.j test l.times l.invariant.4 (eq-eqb child a.c (omega (arith, e, w.if-wide-c.true)))
+        | else-wide-c w ↦
+            w.times-is ∙ skipped l.j test l.times l.invariant.4 (ne_eqb child a.c (λ q. w.if-wide-c.false (omega (arith, e, q))))
+      ],
     )
 
 pub returns : goal.returns

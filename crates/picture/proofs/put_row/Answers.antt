@@ -15,5 +15,5 @@ pub returns : goal.returns
 returns c =
     let s = c in
     let a = s.args in
-    row_put a.b a.h a.raw.now (s.requires.0, λ k. (c.type_inv.raw k).fits) a.y s.requires.1
-    a.rows.now (λ k. (c.type_inv.rows k).fits) a.at s.requires.4 _ c.paint_row.ensures
+    row_put a.b a.h a.raw.now (s.requires.0, λ k. search rules) a.y s.requires.1
+    a.rows.now (λ k. search rules) a.at s.requires.4 _ c.paint_row.ensures

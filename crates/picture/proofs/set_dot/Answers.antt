@@ -46,12 +46,12 @@ pub returns-then-v-eq1 : goal.returns-then-v-eq1
 returns-then-v-eq1 c =
     let s = c in
     let a = s.args in
-    painted_white a.b a.h (omega arith) a.raw.now (s.requires.0, λ k. (c.type_inv.raw k).fits)
+    painted_white a.b a.h (omega arith) a.raw.now (s.requires.0, λ k. search rules)
     a.x a.y a.v s.requires.1 s.requires.2 c.if-v-eq1.true
 
 pub returns-else-v-eq1 : goal.returns-else-v-eq1
 returns-else-v-eq1 c =
     let s = c in
     let a = s.args in
-    painted_black a.b a.h (omega arith) a.raw.now (s.requires.0, λ k. (c.type_inv.raw k).fits)
+    painted_black a.b a.h (omega arith) a.raw.now (s.requires.0, λ k. search rules)
     a.x a.y a.v s.requires.1 s.requires.2 (omega (arith, s.requires.3, c.if-v-eq1.false))

@@ -18,15 +18,15 @@ pub returns-then-not-summary_good : goal.returns-then-not-summary_good
 returns-then-not-summary_good c =
     let a = c.args in
     let bad = refused c.summary_good.ensures (ap not c.if-not-summary_good.true) in
-    one_bad a.b a.h a.t4 a.n c.loop-slot.slot (omega arith) bad
+    one_bad a.b a.h a.summaries a.n c.loop-slot.slot (omega arith) bad
 
 pub loop-slot-preserved : goal.loop-slot-preserved
 loop-slot-preserved c =
     let a = c.args in
     let l = c.loop-slot in
-    (omega arith, all_more l.slot (good_at a.b a.h a.t4) (passed c.summary_good.ensures (ap not c.if-not-summary_good.false)) l.invariant.1)
+    (omega arith, all_more l.slot (good_at a.b a.h a.summaries) (passed c.summary_good.ensures (ap not c.if-not-summary_good.false)) l.invariant.1)
 
 pub returns : goal.returns
 returns c =
     let a = c.args in
-    all_good a.b a.h a.t4 a.n c.loop-slot.slot (omega arith) c.loop-slot.invariant.1
+    all_good a.b a.h a.summaries a.n c.loop-slot.slot (omega arith) c.loop-slot.invariant.1
