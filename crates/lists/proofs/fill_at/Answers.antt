@@ -1,9 +1,6 @@
 use mathlib.Core.Path.{◌≡◌, refl}
-use Prim.Native.Nat.{◌-◌, ◌≤◌}
 use native.Mathlib.Omega.{arith}
-use borrow.Author.Rules.{rules}
-use lib.ListN.{length, replicate, length-set}
-use Rattle.lists.specs.Lists.{overlay_at}
+use lib.ListN.{length-set}
 use Rattle.lists.proofs.Lists.{overlay_at_none, fill_more}
 use Rattle.lists.proofs.fill_at.Goals as goal
 

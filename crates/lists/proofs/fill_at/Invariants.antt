@@ -1,12 +1,9 @@
 -- Each turn writes the value once more.
 -- Assumes nothing.
-use mathlib.Core.Path.{◌≡◌, refl}
+use mathlib.Core.Path.{◌≡◌}
 use Prim.Native.Nat.{◌-◌, ◌≤◌}
-use native.Mathlib.Omega.{arith}
-use borrow.Author.Rules.{rules}
-use lib.ListN.{length, replicate, length-set}
+use lib.ListN.{length, replicate}
 use Rattle.lists.specs.Lists.{overlay_at}
-use Rattle.lists.proofs.Lists.{overlay_at_none, fill_more}
 use Rattle.lists.proofs.fill_at.Given as goal
 
 abbrev pub invariant-loop-i : goal.invariant-loop-i

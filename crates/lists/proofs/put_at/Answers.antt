@@ -1,10 +1,7 @@
 use mathlib.Core.Path.{◌≡◌, refl}
-use Prim.Native.Nat.{◌-◌, ◌≤◌}
 use native.Mathlib.Omega.{arith}
-use borrow.Author.Rules.{rules}
-use lib.ListN.{length, take, length-set}
+use lib.ListN.{take, length-set}
 use lib.Seq.{take_all}
-use Rattle.lists.specs.Lists.{overlay_at}
 use Rattle.lists.proofs.Lists.{overlay_at_none, copy_more}
 use Rattle.lists.proofs.put_at.Goals as goal
 

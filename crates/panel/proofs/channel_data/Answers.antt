@@ -1,6 +1,5 @@
 use mathlib.Core.Path.{refl}
 use Rattle.panel.specs.Registers.{channel_data}
-use borrow.Author.Rules.{rules}
 use Rattle.panel.proofs.channel_data.Goals as goal
 
 pub returns : goal.returns

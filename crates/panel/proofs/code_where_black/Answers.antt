@@ -1,6 +1,5 @@
 use mathlib.Core.Path.{refl}
 use Rattle.panel.proofs.Codes.{black_lt}
-use borrow.Author.Rules.{rules}
 use Rattle.panel.proofs.code_where_black.Goals as goal
 
 pub returns : goal.returns

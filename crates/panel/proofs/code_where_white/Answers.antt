@@ -1,6 +1,5 @@
 use mathlib.Core.Path.{refl}
 use Rattle.panel.proofs.Codes.{white_lt}
-use borrow.Author.Rules.{rules}
 use Rattle.panel.proofs.code_where_white.Goals as goal
 
 pub returns : goal.returns

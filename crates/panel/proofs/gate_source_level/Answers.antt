@@ -1,6 +1,5 @@
 use mathlib.Core.Path.{refl}
 use Rattle.panel.specs.Registers.{gate_source_level}
-use borrow.Author.Rules.{rules}
 use Rattle.panel.proofs.gate_source_level.Goals as goal
 
 pub returns : goal.returns

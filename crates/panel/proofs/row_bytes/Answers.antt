@@ -5,7 +5,6 @@ use lib.ListN.{get_or}
 use native.Mathlib.Omega.{arith}
 use Rattle.panel.specs.Panels.{row_bytes_of}
 use Rattle.panel.proofs.Panels.{each_panel}
-use borrow.Author.Rules.{rules}
 use Rattle.panel.proofs.row_bytes.Goals as goal
 
 pub returns : goal.returns

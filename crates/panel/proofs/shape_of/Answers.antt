@@ -1,5 +1,4 @@
 -- `shape_of` meets its contract: one entry of each table. Assumes nothing.
-use borrow.Author.Rules.{rules}
 use Rattle.panel.proofs.shape_of.Goals as goal
 
 pub returns : goal.returns

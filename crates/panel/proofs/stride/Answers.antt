@@ -1,6 +1,5 @@
 use mathlib.Core.Path.{refl}
 use Rattle.panel.proofs.Panels.{stride_le}
-use borrow.Author.Rules.{rules}
 use Rattle.panel.proofs.stride.Goals as goal
 
 pub returns : goal.returns

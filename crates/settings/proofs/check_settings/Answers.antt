@@ -1,5 +1,4 @@
 -- `check_settings` meets its contract. Assumes nothing.
-use borrow.Author.Rules.{rules}
 use Rattle.settings.specs.Settings.{check_settings}
 use Rattle.settings.proofs.check_settings.Goals as goal
 

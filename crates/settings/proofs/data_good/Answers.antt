@@ -4,7 +4,6 @@ use mathlib.Core.Path.{sym, ap, ◌∙◌}
 use mathlib.Core.List.{[], ◌∷◌}
 use native.Mathlib.Omega.{arith}
 use lib.ListN.{drop}
-use borrow.Author.Rules.{rules}
 use Rattle.settings.specs.Settings.{has_prefix}
 use Rattle.settings.proofs.Decode.{asked_channels, asked_level, asked_nothing, channels-long, level-long}
 use Rattle.settings.proofs.data_good.Goals as goal

@@ -1,7 +1,6 @@
 -- `data_of`: the data of a write stand right after its first two bytes. Assumes nothing.
 use Prim.Native.Nat.{◌+◌, ◌-◌}
 use native.Mathlib.Omega.{arith}
-use borrow.Author.Rules.{rules}
 use Rattle.settings.proofs.Steps.{write_fits, write_data}
 use Rattle.settings.proofs.data_of.Goals as goal
 

@@ -1,9 +1,7 @@
-use mathlib.Core.Path.{◌≡◌, sym, ◌∙◌}
-use Prim.Native.Nat.{◌+◌, ◌-◌, ◌≤◌}
+use mathlib.Core.Path.{sym, ◌∙◌}
+use Prim.Native.Nat.{◌+◌}
 use native.Mathlib.Nat.{add-zero, add_assoc}
 use native.Mathlib.Omega.{arith}
-use lib.ListN.{length, drop}
-use Rattle.settings.specs.Settings.{has_prefix}
 use Rattle.settings.proofs.Prefix.{prefix_differs, prefix_more, prefix_over}
 use Rattle.settings.proofs.has_prefix.Goals as goal
 

@@ -1,12 +1,9 @@
 -- `has_prefix` meets its contract. The loop's invariant: whether the rest of the prefix begins what stands i bytes
 -- further on is what is asked of the whole. Assumes nothing.
-use mathlib.Core.Path.{◌≡◌, sym, ◌∙◌}
+use mathlib.Core.Path.{◌≡◌}
 use Prim.Native.Nat.{◌+◌, ◌-◌, ◌≤◌}
-use native.Mathlib.Nat.{add-zero, add_assoc}
-use native.Mathlib.Omega.{arith}
 use lib.ListN.{length, drop}
 use Rattle.settings.specs.Settings.{has_prefix}
-use Rattle.settings.proofs.Prefix.{prefix_differs, prefix_more, prefix_over}
 use Rattle.settings.proofs.has_prefix.Given as goal
 
 abbrev pub invariant-loop-i : goal.invariant-loop-i

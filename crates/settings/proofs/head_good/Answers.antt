@@ -6,7 +6,6 @@ use mathlib.Core.Bool.{and-true}
 use native.Mathlib.Omega.{arith}
 use lib.Dec.{leb}
 use borrow.Author.Tests.{not-true, not-false, eq-eqb, ne_eqb, le-leb, lt-leb}
-use borrow.Author.Rules.{rules}
 use Rattle.lists.proofs.Rules.{broken, none, keep, others}
 use Rattle.settings.specs.Settings.{start_count}
 use Rattle.settings.specs.Settings.{head_rules}

@@ -1,6 +1,5 @@
 -- `make_plan`: the tables of the panel, and the sections of an accepted file. Assumes nothing.
 use native.Mathlib.Omega.{arith}
-use borrow.Author.Rules.{rules}
 use Rattle.settings.proofs.Accepted.{good-long, good-panel}
 use Rattle.settings.proofs.Plans.{plan_made}
 use Rattle.settings.proofs.make_plan.Goals as goal

@@ -1,6 +1,5 @@
 -- `mark` meets its contract: a write marks its register, and another step nothing. Assumes nothing.
 use borrow.Author.Tests.{eq-eqb, ne_eqb}
-use borrow.Author.Rules.{rules}
 use Rattle.settings.proofs.mark.Goals as goal
 
 pub returns-then-tag-eq87 : goal.returns-then-tag-eq87

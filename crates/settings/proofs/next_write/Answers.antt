@@ -1,15 +1,6 @@
 use mathlib.Core.Path.{◌≡◌, refl, sym, ap, ◌∙◌}
-use mathlib.Core.List.{[], ◌∷◌}
-use mathlib.Core.Logic.{⊎_elim}
-use Prim.Native.Nat.{ℕ, ◌+◌, ◌*◌, ◌≤◌}
 use native.Mathlib.Omega.{arith}
-use lib.ListN.{length, drop}
-use types.Run.{OneOf}
-use denote.Enum.Declared.{tag_of}
-use borrow.Author.Rules.{rules}
-use Rattle.settings.specs.declared.Kind.{Kind}
-use Rattle.settings.specs.declared.Kind.TheVariants.{Wait}
-use Rattle.settings.specs.contracts.Kind.{the_type}
+use lib.ListN.{drop}
 use Rattle.settings.specs.Settings.{steps_of}
 use Rattle.settings.specs.Steps.{waits_before, from_write}
 use Rattle.settings.specs.Facts.{kind_size}

@@ -1,22 +1,10 @@
 -- `next_write` meets its contract. The loop's invariant: the waits passed and those before the next write of the steps that
 -- are left, from `at` on, are together those of all n, and both have the same next write. Assumes nothing.
-use mathlib.Core.Path.{◌≡◌, refl, sym, ap, ◌∙◌}
-use mathlib.Core.List.{[], ◌∷◌}
-use mathlib.Core.Logic.{⊎_elim}
-use Prim.Native.Nat.{ℕ, ◌+◌, ◌*◌, ◌≤◌}
-use native.Mathlib.Omega.{arith}
+use mathlib.Core.Path.{◌≡◌}
+use Prim.Native.Nat.{◌+◌, ◌*◌, ◌≤◌}
 use lib.ListN.{length, drop}
-use types.Run.{OneOf}
-use denote.Enum.Declared.{tag_of}
-use borrow.Author.Rules.{rules}
-use Rattle.settings.specs.declared.Kind.{Kind}
-use Rattle.settings.specs.declared.Kind.TheVariants.{Wait}
-use Rattle.settings.specs.contracts.Kind.{the_type}
 use Rattle.settings.specs.Settings.{steps_of}
 use Rattle.settings.specs.Steps.{waits_before, from_write}
-use Rattle.settings.specs.Facts.{kind_size}
-use Rattle.settings.proofs.Steps.{length_steps, Turn, next_fits}
-use Rattle.settings.proofs.Waits.{past_wait, no_wait_here, write_here}
 use Rattle.settings.proofs.next_write.Given as goal
 
 abbrev pub invariant-loop-left : goal.invariant-loop-left

@@ -1,6 +1,5 @@
 -- `panel_of` meets its contract: a byte fits. Assumes nothing.
 use native.Mathlib.Omega.{arith}
-use borrow.Author.Rules.{rules}
 use Rattle.settings.proofs.panel_of.Goals as goal
 
 pub overflow_cast-result : goal.overflow_cast-result

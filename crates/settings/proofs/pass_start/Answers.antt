@@ -1,7 +1,6 @@
 -- `pass_start` meets its contract: each rule of the start steps is one branch. Assumes nothing.
 use native.Mathlib.Omega.{arith}
 use borrow.Author.Tests.{not-false}
-use borrow.Author.Rules.{rules}
 use Rattle.lists.proofs.Rules.{refused}
 use Rattle.settings.proofs.Sections.{start-refused, start-passed}
 use Rattle.settings.proofs.pass_start.Goals as goal

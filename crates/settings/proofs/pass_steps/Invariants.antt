@@ -1,14 +1,11 @@
 -- `pass_steps` meets its contract. The loop's invariant: the steps that are left, from `end` on, are good, and leave the
 -- same rest, just when all n do; the channels, and the level, are marked so far or written among the steps that are left just
 -- when they are among all n. Assumes nothing.
-use mathlib.Core.Path.{◌≡◌, refl, sym, ap, ◌∙◌}
-use mathlib.Core.Bool.{false, ◌||◌, or-false, false≢true}
-use Prim.Native.Nat.{◌+◌, ◌≤◌}
-use native.Mathlib.Omega.{arith}
+use mathlib.Core.Path.{◌≡◌}
+use mathlib.Core.Bool.{false, ◌||◌}
+use Prim.Native.Nat.{◌≤◌}
 use lib.ListN.{length, get_or, drop}
 use Rattle.settings.specs.Settings.{steps_of, rest_of, all_steps, writes_to}
-use Rattle.settings.proofs.Steps.{turn_of, next_fits, next_rest, next_all, next_writes, stuck_all, stuck_rest}
-use Rattle.settings.proofs.Bytes.{step_long, second_small, marks, mark_length}
 use Rattle.settings.proofs.pass_steps.Given as goal
 
 abbrev pub invariant-loop-left : goal.invariant-loop-left

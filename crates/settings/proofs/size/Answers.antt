@@ -1,7 +1,6 @@
 -- `size` meets its contract, by the kind that was given. Assumes nothing.
 use mathlib.Core.Path.{sym, ap, ◌∙◌}
 use Prim.Native.Nat.{◌+◌}
-use borrow.Author.Rules.{rules}
 use Rattle.settings.specs.Facts.{kind_size}
 use Rattle.settings.proofs.size.Goals as goal
 

@@ -2,7 +2,6 @@
 use mathlib.Core.Path.{ap, ◌∙◌}
 use native.Mathlib.Omega.{arith}
 use borrow.Author.Tests.{not-true, not-false}
-use borrow.Author.Rules.{rules}
 use Rattle.settings.specs.declared.Kind.TheVariants.{Wait}
 use Rattle.settings.proofs.Bytes.{not-passed, passed-long, passed_write, passed-wait}
 use Rattle.settings.proofs.step_at.Goals as goal

@@ -2,7 +2,6 @@
 use mathlib.Core.Path.{sym}
 use native.Mathlib.Omega.{arith}
 use borrow.Author.Tests.{not-true, not-false}
-use borrow.Author.Rules.{rules}
 use Rattle.settings.proofs.Sections.{no_section, many_stops, bad_stop, stop_rules}
 use Rattle.settings.proofs.stop_good.Goals as goal
 

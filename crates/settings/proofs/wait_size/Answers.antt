@@ -1,6 +1,5 @@
 -- `wait_size` meets its contract: each of the two tests of `wait_of` is one branch. Assumes nothing.
 use native.Mathlib.Omega.{arith}
-use borrow.Author.Rules.{rules}
 use Rattle.settings.proofs.Decode.{no_wait, long-wait, good-wait}
 use Rattle.settings.proofs.wait_size.Goals as goal
 

@@ -1,6 +1,6 @@
 -- The refusals in their order, and the line where none applies.
 -- Assumes nothing.
-use mathlib.Core.Path.{◌≡◌, sym, ◌∙◌}
+use mathlib.Core.Path.{sym, ◌∙◌}
 use native.Mathlib.Omega.{arith}
 use Rattle.panel.proofs.Panels.{row_bytes_le}
 use Rattle.wire.proofs.Builder.{in_range_lem, out_of_range, too_short_lem, built}

@@ -1,6 +1,5 @@
 -- The bits of the even dots, in the order of `even_byte_lem`.
 -- Assumes nothing.
-use borrow.Author.Rules.{rules}
 use Rattle.wire.specs.Line.{even_byte}
 use Rattle.wire.proofs.even_codes.Goals as goal
 

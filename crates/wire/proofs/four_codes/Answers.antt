@@ -1,6 +1,5 @@
 -- Each code is joined at the low end.
 -- Assumes nothing.
-use borrow.Author.Rules.{rules}
 use Rattle.wire.proofs.Bytes.{joined}
 use Rattle.wire.proofs.four_codes.Goals as goal
 

@@ -4,7 +4,6 @@ use mathlib.Core.Bool.{not}
 use mathlib.Core.Path.{ap}
 use mathlib.Core.Path.{sym, ◌∙◌}
 use native.Mathlib.Omega.{arith}
-use borrow.Author.Rules.{rules}
 use borrow.Author.Tests.{ltb-true, not-true, not-false, le-ltb, lt-leb}
 use Rattle.panel.specs.Panels.{rows_of}
 use Rattle.wire.proofs.Builder.{not_in_range, range_last}

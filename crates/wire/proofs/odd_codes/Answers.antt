@@ -1,6 +1,5 @@
 -- The bits of the odd dots, in the order of `odd_byte_lem`.
 -- Assumes nothing.
-use borrow.Author.Rules.{rules}
 use Rattle.wire.specs.Line.{odd_byte}
 use Rattle.wire.proofs.odd_codes.Goals as goal
 

@@ -1,16 +1,12 @@
 -- Each turn writes one even byte more.
 -- Assumes nothing.
-use mathlib.Core.Path.{◌≡◌, refl, sym, ◌∙◌}
+use mathlib.Core.Path.{◌≡◌}
 use Prim.Native.Nat.{◌-◌, ◌≤◌}
-use native.Mathlib.Omega.{arith}
-use borrow.Author.Rules.{rules}
-use lib.ListN.{length, length-set}
+use lib.ListN.{length}
 use Rattle.lists.specs.Lists.{tabulate, overlay_at}
-use Rattle.lists.proofs.Lists.{table_more}
 use Rattle.panel.specs.Codes.{code_by}
 use Rattle.panel.specs.Dots.{row_dot}
 use Rattle.wire.specs.Line.{even_byte}
-use Rattle.wire.proofs.Bytes.{even_byte_lem}
 use Rattle.wire.proofs.put_even.Given as goal
 
 abbrev pub invariant-loop-j : goal.invariant-loop-j

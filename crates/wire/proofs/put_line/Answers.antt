@@ -1,7 +1,6 @@
 -- The three loops, one after the other, make a line.
 -- Assumes nothing.
 use native.Mathlib.Omega.{arith}
-use borrow.Author.Rules.{rules}
 use lib.ListN.{length}
 use Rattle.panel.specs.Dots.{row_dot}
 use Rattle.wire.proofs.Line.{line_laid}

@@ -1,9 +1,7 @@
 use mathlib.Core.Path.{◌≡◌, refl, sym, ◌∙◌}
-use Prim.Native.Nat.{◌-◌, ◌*◌, ◌≤◌}
+use Prim.Native.Nat.{◌*◌}
 use native.Mathlib.Omega.{arith}
-use borrow.Author.Rules.{rules}
 use lib.ListN.{length, length-set}
-use Rattle.lists.specs.Lists.{tabulate, overlay_at}
 use Rattle.lists.proofs.Lists.{overlay_at_none, table_more}
 use Rattle.panel.specs.Codes.{code_by}
 use Rattle.panel.specs.Dots.{row_dot}

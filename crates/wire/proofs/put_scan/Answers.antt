@@ -1,9 +1,6 @@
 use mathlib.Core.Path.{◌≡◌, refl}
-use Prim.Native.Nat.{◌-◌, ◌≤◌}
 use native.Mathlib.Omega.{arith}
-use borrow.Author.Rules.{rules}
-use lib.ListN.{length, length-set}
-use Rattle.lists.specs.Lists.{tabulate, overlay_at}
+use lib.ListN.{length-set}
 use Rattle.lists.proofs.Lists.{overlay_at_none, table_more}
 use Rattle.wire.specs.Line.{scan_byte}
 use Rattle.wire.proofs.put_scan.Goals as goal

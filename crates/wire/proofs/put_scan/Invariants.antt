@@ -1,12 +1,9 @@
 -- Each turn writes one scan byte more.
 -- Assumes nothing.
-use mathlib.Core.Path.{◌≡◌, refl}
+use mathlib.Core.Path.{◌≡◌}
 use Prim.Native.Nat.{◌-◌, ◌≤◌}
-use native.Mathlib.Omega.{arith}
-use borrow.Author.Rules.{rules}
-use lib.ListN.{length, length-set}
+use lib.ListN.{length}
 use Rattle.lists.specs.Lists.{tabulate, overlay_at}
-use Rattle.lists.proofs.Lists.{overlay_at_none, table_more}
 use Rattle.wire.specs.Line.{scan_byte}
 use Rattle.wire.proofs.put_scan.Given as goal
 

@@ -3,7 +3,6 @@
 use mathlib.Core.Path.{refl}
 use mathlib.Core.List.{[]}
 use native.Mathlib.Omega.{arith}
-use borrow.Author.Rules.{rules}
 use Rattle.wire.specs.Registers.{register_write}
 use Rattle.lists.proofs.Parts.{overlay_two}
 use Rattle.wire.proofs.put_write.Goals as goal
