@@ -1,5 +1,4 @@
 use mathlib.Core.Path.{◌≡◌, refl, ◌∙◌}
-use mathlib.Core.Logic.{⊎_elim}
 use Prim.Native.Nat.{◌-◌, ◌≤◌}
 use native.Mathlib.Omega.{arith}
 use lib.ListN.{length}
@@ -8,6 +7,7 @@ use Rattle.mend.specs.Changes.{changed}
 use Rattle.mend.proofs.Changes.{count_le, count_same, count_next}
 use borrow.Author.Rules.{rules}
 use Rattle.mend.proofs.count_changes.Goals as goal
+use Rattle.mend.proofs.count_changes.Goals.{then-mended_byte-file, else-mended_byte-file}
 
 pub loop-k-init : goal.loop-k-init
 loop-k-init c = (omega arith, refl)
@@ -22,10 +22,12 @@ loop-k-preserved c =
     let a = c.args in
     let l = c.loop-k in (
       omega arith,
-      ⊎_elim
-          (λ w. w.1 ∙ count_next a.file.now (byte_by a.b a.s a.header.now a.white a.file.now) l.k l.count _ c.mended_byte.ensures w.0.taken l.invariant.1)
-          (λ w. w.1 ∙ count_same a.file.now (byte_by a.b a.s a.header.now a.white a.file.now) l.k l.count _ c.mended_byte.ensures w.0.left l.invariant.1)
-          c.if-mended_byte-file.branch,
+      elim c.if-mended_byte-file.branch [
+        | then-mended_byte-file w ↦
+            rw w.count-is (count_next a.file.now (byte_by a.b a.s a.header.now a.white a.file.now) l.k l.count _ c.mended_byte.ensures w.if-mended_byte-file.true l.invariant.1)
+        | else-mended_byte-file w ↦
+            rw w.count-is (count_same a.file.now (byte_by a.b a.s a.header.now a.white a.file.now) l.k l.count _ c.mended_byte.ensures w.if-mended_byte-file.false l.invariant.1)
+      ],
     )
 
 pub returns : goal.returns

@@ -1,6 +1,4 @@
 -- `check_state`: 13, or none. Assumes nothing.
-use mathlib.Core.Bool.{not}
-use mathlib.Core.Path.{ap}
 use Rattle.store.specs.Facts.{settings_of}
 use Rattle.store.proofs.Conditions.{state_13, state_0}
 use borrow.Author.Rules.{rules}
@@ -9,9 +7,9 @@ use Rattle.store.proofs.checks.check_state.Goals as goal
 pub returns-then-not-planned : goal.returns-then-not-planned
 returns-then-not-planned c =
     let a = c.args in
-    state_13 (settings_of a.file.now a.len) a.store c.plan_state-planned.ensures (ap not c.if-not-planned.true)
+    state_13 (settings_of a.file.now a.len) a.store c.plan_state-planned.ensures c.if-not-planned.true
 
 pub returns : goal.returns
 returns c =
     let a = c.args in
-    state_0 (settings_of a.file.now a.len) a.store c.plan_state-planned.ensures (ap not c.if-not-planned.false)
+    state_0 (settings_of a.file.now a.len) a.store c.plan_state-planned.ensures c.if-not-planned.false

@@ -23,7 +23,7 @@ pub returns-then-not-planned : goal.returns-then-not-planned
 returns-then-not-planned c =
     let a = c.args in
     let s = settings_of a.file.now a.len in
-    not_good s a.store c.no_plan-then-not-planned.ensures (refused c.plan_of-planned.ensures.accepted (ap not c.if-not-planned.true))
+    not_good s a.store c.no_plan-then-not-planned.ensures (refused c.plan_of-planned.ensures.accepted c.if-not-planned.true)
 
 pub returns-then-store-lt1 : goal.returns-then-store-lt1
 returns-then-store-lt1 c =
@@ -38,7 +38,7 @@ returns-then-store-gt7 c =
     many_slots s a.store c.no_plan-then-store-gt7.ensures c.if-store-gt7.true
 
 pub phase_valid-requires : goal.phase_valid-requires
-phase_valid-requires c = c.plan_of-planned.ensures.plan (not-false _ (ap not c.if-not-planned.false))
+phase_valid-requires c = c.plan_of-planned.ensures.plan (not-false _ c.if-not-planned.false)
 
 pub returns-then-not-phase_valid : goal.returns-then-not-phase_valid
 returns-then-not-phase_valid c =
@@ -47,10 +47,10 @@ returns-then-not-phase_valid c =
     not_phase s a.store c.no_plan-then-not-phase_valid.ensures (refused c.phase_valid.ensures (ap not c.if-not-phase_valid.true))
 
 pub slots_valid-ok-requires : goal.slots_valid-ok-requires
-slots_valid-ok-requires c = ((c.plan_of-planned.ensures.plan (not-false _ (ap not c.if-not-planned.false))).sized, c.if-store-gt7.false)
+slots_valid-ok-requires c = ((c.plan_of-planned.ensures.plan (not-false _ c.if-not-planned.false)).sized, c.if-store-gt7.false)
 
 pub returns : goal.returns
 returns c =
     let a = c.args in
     let s = settings_of a.file.now a.len in
-    slots_decide s a.store c.if-file-len.false c.if-store-lt1.false c.if-store-gt7.false (c.plan_of-planned.ensures.plan (not-false _ (ap not c.if-not-planned.false))) (passed c.phase_valid.ensures (ap not c.if-not-phase_valid.false)) c.slots_valid-ok.ensures
+    slots_decide s a.store c.if-file-len.false c.if-store-lt1.false c.if-store-gt7.false (c.plan_of-planned.ensures.plan (not-false _ c.if-not-planned.false)) (passed c.phase_valid.ensures (ap not c.if-not-phase_valid.false)) c.slots_valid-ok.ensures
