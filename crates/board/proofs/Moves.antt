@@ -135,9 +135,9 @@ module _ (b h N : ℕ) (memory : List ℕ) where
   -- a run starts where none is under way or abandoned
   begins : {phase : Phase} {view : View} (new : Dots) → is_running phase ≡ false → is_abandoned phase ≡ false → Sees b h memory phase view
       → Move b h N view [] (moves.updating (dot b (slot_picture b h memory 0)) new (line 1 0 0))
-  begins new idle whole rests = moves.start (silent_none b h)
-  begins new idle whole runs = absurd (false≢true (sym idle))
-  begins new idle whole stopped = absurd (false≢true (sym whole))
+  begins _ idle whole rests = moves.start (silent_none b h)
+  begins _ idle whole runs = absurd (false≢true (sym idle))
+  begins _ idle whole stopped = absurd (false≢true (sym whole))
 
   -- the run under way is abandoned where it stands
   breaks_off : {phase : Phase} {view : View} (seen : Seen) → is_running phase ≡ true → Agree b h phase memory seen view

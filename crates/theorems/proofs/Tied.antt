@@ -274,7 +274,7 @@ as_defined {p} step = ap (λ (c : Called). record { state = p.state; memory = p.
 -- a call of a chain is what the list of the calls before it and its own definition say
 in_list : {s : State} {m : List ℕ} {events : List Event} {u : List ℕ} (chain : Chain Step s m events u) (calls : List Call) (p : Parts)
     → In chain calls p → p ≡ made_after s m calls p.call
-in_list finished calls p at = absurd at
+in_list finished _ p at = absurd at
 in_list (more {p = q} step rest) [] p at =
     at ∙ as_defined step ∙ ap (λ (r : Parts). made_after q.state q.memory [] r.call) (sym at)
 in_list (more {p = q} step rest) (call ∷ calls) p at =

@@ -1,5 +1,4 @@
 -- `empty_state`: no settings, and a store of no slots. Assumes nothing.
-use borrow.Author.Rules.{rules}
 use Rattle.board.proofs.empty_state.Goals as goal
 
 pub returns : goal.returns

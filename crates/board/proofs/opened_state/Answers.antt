@@ -1,5 +1,4 @@
 -- `opened_state`: the file is kept, and the store is new. Assumes nothing.
-use borrow.Author.Rules.{rules}
 use Rattle.board.proofs.opened_state.Goals as goal
 
 pub returns : goal.returns

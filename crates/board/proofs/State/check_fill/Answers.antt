@@ -3,7 +3,6 @@ use mathlib.Core.Path.{refl}
 use Rattle.store.specs.Refusals.{fill_own}
 use Rattle.store.proofs.Cases.{more_found}
 use Rattle.board.specs.State.{file_of, store_cases}
-use borrow.Author.Rules.{rules}
 use Rattle.board.proofs.State.check_fill.Goals as goal
 
 pub returns : goal.returns

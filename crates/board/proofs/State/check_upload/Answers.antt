@@ -3,7 +3,6 @@ use Rattle.store.specs.Refusals.{upload_own}
 use Rattle.store.proofs.Cases.{more_found}
 use Rattle.board.specs.State.{file_of, store_cases}
 use mathlib.Core.Path.{refl}
-use borrow.Author.Rules.{rules}
 use Rattle.board.proofs.State.check_upload.Goals as goal
 
 pub returns : goal.returns

@@ -3,7 +3,6 @@ use Rattle.store.specs.Refusals.{write_own}
 use Rattle.store.proofs.Cases.{first_found}
 use Rattle.board.specs.State.{file_of, store_cases, sizes_of}
 use Rattle.board.proofs.Tests.{write_found}
-use borrow.Author.Rules.{rules}
 use Rattle.board.proofs.State.check_write.Goals as goal
 
 pub returns-then-number-ne0 : goal.returns-then-number-ne0

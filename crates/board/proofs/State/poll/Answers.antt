@@ -6,4 +6,4 @@ use Rattle.board.proofs.State.poll.Goals as goal
 pub returns : goal.returns
 returns c =
     let a = c.args in
-    search (rules, poll-whole a.t1 a.tick a.memory.now a.out.now c.with_store-state.ensures c.poll_store-left.ensures)
+    search (rules, poll-whole a.self a.tick a.memory.now a.out.now c.with_store-state.ensures c.poll_store-left.ensures)

@@ -1,6 +1,5 @@
 -- `reply_drawn`: the state as it was, or with a fresh count. Assumes nothing.
 use Rattle.board.proofs.Replies.{drawn_refused, drawn_counted}
-use borrow.Author.Rules.{rules}
 use Rattle.board.proofs.State.reply_drawn.Goals as goal
 
 pub returns-then-number-ne0 : goal.returns-then-number-ne0

@@ -3,7 +3,6 @@ use mathlib.Core.Bool.{not}
 use mathlib.Core.Path.{ap}
 use borrow.Author.Tests.{not-false, not-true}
 use Rattle.board.proofs.Replies.{fed_unwritten, fed_written}
-use borrow.Author.Rules.{rules}
 use Rattle.board.proofs.State.reply_fed.Goals as goal
 
 pub returns-then-not-wrote : goal.returns-then-not-wrote

@@ -11,20 +11,20 @@ use Rattle.board.proofs.State.summary.Goals as goal
 pub returns-then-number-ne0 : goal.returns-then-number-ne0
 returns-then-number-ne0 c =
     let a = c.args in
-    let s = a.t1 in
+    let s = a.self in
     let is = after_cases (state_cases s) (summary_own s.store a.slot) refl c.check_state-before.ensures c.summary_number-number.ensures in
     search (rules, summary-refused s a.slot is c.empty_summary.ensures c.if-number-ne0.true)
 
 pub summary_at-requires : goal.summary_at-requires
 summary_at-requires c =
     let a = c.args in
-    let s = a.t1 in
+    let s = a.self in
     let is = after_cases (state_cases s) (summary_own s.store a.slot) refl c.check_state-before.ensures c.summary_number-number.ensures in
     told_place s a.slot is c.if-number-ne0.false
 
 pub returns : goal.returns
 returns c =
     let a = c.args in
-    let s = a.t1 in
+    let s = a.self in
     let is = after_cases (state_cases s) (summary_own s.store a.slot) refl c.check_state-before.ensures c.summary_number-number.ensures in
     search (rules, summary-told s a.slot is c.summary_at.ensures c.if-number-ne0.false)

@@ -1,7 +1,6 @@
 -- `after_poll`: done copies, any other answer does not. Assumes nothing.
 use mathlib.Core.Path.{refl}
 use Rattle.board.proofs.Replies.{polled_store, shown_store}
-use borrow.Author.Rules.{rules}
 use Rattle.board.proofs.runs.after_poll.Goals as goal
 
 pub returns-in-Refused : goal.returns-in-Refused

@@ -1,6 +1,5 @@
 -- `leave`: the phase and the summaries that a poll leaves. Assumes nothing.
 use Rattle.board.proofs.Replies.{left_by_lem}
-use borrow.Author.Rules.{rules}
 use Rattle.board.proofs.runs.leave.Goals as goal
 
 pub returns : goal.returns

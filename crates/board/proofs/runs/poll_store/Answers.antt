@@ -9,7 +9,6 @@ use Rattle.board.specs.Calls.{in_state}
 use Rattle.board.specs.Facts.{state_of}
 use Rattle.board.proofs.Tests.{store_tested, room}
 use Rattle.board.proofs.Replies.{poll-refused, poll_in, poll_left}
-use borrow.Author.Rules.{rules}
 use Rattle.board.proofs.runs.poll_store.Goals as goal
 
 pub returns-then-number-ne0 : goal.returns-then-number-ne0
