@@ -1,5 +1,5 @@
 -- The index after n bytes, by where the bytes end. Assumes nothing.
-use Rattle.std.proofs.Common.{arith, rules}
+use Rattle.std.proofs.Common.{arith}
 use Rattle.update_loop.proofs.Loop.{index_at_end, index_within}
 use Rattle.update_loop.proofs.after.Goals as goal
 

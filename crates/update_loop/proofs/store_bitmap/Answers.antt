@@ -1,5 +1,5 @@
 -- The upload after the opening. Assumes nothing.
-use Rattle.std.proofs.Common.{ap, rules}
+use Rattle.std.proofs.Common.{ap}
 use Rattle.update_loop.specs.Loop.{numbered}
 use Rattle.update_loop.proofs.Loop.{bitmap_stored_lem}
 use Rattle.update_loop.proofs.store_bitmap.Goals as goal

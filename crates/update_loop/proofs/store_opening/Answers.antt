@@ -1,5 +1,5 @@
 -- The opening's number. Assumes nothing.
-use Rattle.std.proofs.Common.{ap, rules}
+use Rattle.std.proofs.Common.{ap}
 use Rattle.update_loop.specs.Loop.{numbered}
 use Rattle.update_loop.proofs.store_opening.Goals as goal
 

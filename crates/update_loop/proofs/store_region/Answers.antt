@@ -1,5 +1,5 @@
 -- The upload after the opening. Assumes nothing.
-use Rattle.std.proofs.Common.{ap, ◌∙◌, rules}
+use Rattle.std.proofs.Common.{ap, ◌∙◌}
 use Rattle.board.specs.Calls.{region_upload}
 use Rattle.update_loop.specs.Loop.{numbered}
 use Rattle.update_loop.proofs.store_region.Goals as goal

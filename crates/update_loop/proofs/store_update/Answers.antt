@@ -1,5 +1,5 @@
 -- The loop after the opening and the upload. Assumes nothing.
-use Rattle.std.proofs.Common.{ap, ◌∙◌, rules}
+use Rattle.std.proofs.Common.{ap, ◌∙◌}
 use Rattle.update_loop.specs.Loop.{slot_shown}
 use Rattle.update_loop.proofs.Loop.{bitmap_stored_lem}
 use Rattle.update_loop.proofs.store_update.Goals as goal

@@ -1,7 +1,6 @@
 -- The answer of the call, as a word.
 -- Assumes nothing.
 use mathlib.Core.Path.{ap}
-use borrow.Author.Rules.{rules}
 use mir.Facts.{to_z-of_z}
 use Rattle.start_board.specs.Words.{as_word}
 use Rattle.start_board.specs.Finish.{finish_word}

@@ -1,6 +1,5 @@
 -- Each kind, with its value.
 -- Assumes nothing.
-use borrow.Author.Rules.{rules}
 use Rattle.start_board.proofs.finish.finish_word.Goals as goal
 
 pub returns-in-Refused : goal.returns-in-Refused

@@ -1,6 +1,5 @@
 -- The answer of the call, as a number.
 -- Assumes nothing.
-use borrow.Author.Rules.{rules}
 use Rattle.start_board.proofs.MendNumber.{answer-fits, answered}
 use Rattle.start_board.proofs.mending.epd_mend_bitmap.Goals as goal
 

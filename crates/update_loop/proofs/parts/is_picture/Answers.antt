@@ -2,7 +2,7 @@
 -- Assumes nothing.
 use mathlib.Core.Bool.{not}
 use mathlib.Core.Path.{ap}
-use Rattle.std.proofs.Common.{mul-le-mul, arith, rules, ltb-true}
+use Rattle.std.proofs.Common.{mul-le-mul, arith, ltb-true}
 use Rattle.lists.proofs.Rules.{refused, passed}
 use Rattle.update_loop.proofs.Pictures.{no_panel, by_length}
 use Rattle.update_loop.proofs.parts.is_picture.Goals as goal

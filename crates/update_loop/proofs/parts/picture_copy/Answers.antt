@@ -2,7 +2,7 @@
 -- Assumes nothing.
 use mathlib.Core.Bool.{not}
 use mathlib.Core.Path.{ap}
-use Rattle.std.proofs.Common.{arith, rules}
+use Rattle.std.proofs.Common.{arith}
 use Rattle.lists.proofs.Rules.{refused, passed}
 use Rattle.update_loop.proofs.Pictures.{panel_of_lem, sized, whole, copy_1, copy_4, copied}
 use Rattle.update_loop.proofs.parts.picture_copy.Goals as goal
