@@ -1,3 +1,4 @@
+-- A turn of the loop goes on by the answer of its poll, and each end is that of `shown`. Assumes nothing.
 use Rattle.std.proofs.Common.{◌<◌, ◌∙◌, arith}
 use Rattle.update_loop.specs.Loop.{showing}
 use Rattle.update_loop.proofs.Loop.{from_start_lem, no_poll_left, after_write_lem, after_line, after_wait, after_done_lem, after_refusal}
