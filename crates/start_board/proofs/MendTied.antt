@@ -1,7 +1,7 @@
 -- What is promised of mending, over calls for C that keep the contracts as the checker makes them from the source. A contract that is
 -- weakened in src/ is refused here, even where every function is still proved.
 -- Assumes nothing.
-use mathlib.Core.Path.{◌≡◌, sym, ap, ◌∙◌}
+use mathlib.Core.Path.{◌≡◌, sym, ap, ◌∙◌, subst}
 use mathlib.Core.List.{List}
 use Prim.Native.Nat.{ℕ, ◌≤◌}
 use lib.ListN.{length, take}
@@ -72,7 +72,12 @@ LeavesAll c =
 pub twice_tied : (c d : MendCall) → (answer_in c.result).number ≡ 0 → panel_of d ≡ panel_of c → file_of d ≡ mended_of c
     → full_length (panel_of d) ≤ length (out_of d) → LeavesAll d
 twice_tied c d z panel-is file_is room =
-    kept d ∙ rw (panel-is, file_is) ((mend_tied c z).twice (out_of d) (list_of d) (rw panel-is at room))
+    let long : full_length (panel_of c) ≤ length (out_of d) = subst (λ (p : ℕ). full_length p ≤ length (out_of d)) panel-is room in
+    kept d
+    ∙ ap (λ (p : ℕ). mending p (file_of d) (out_of d) (list_of d)) panel-is
+    ∙ ap (λ (f : List ℕ). mending (panel_of c) f (out_of d) (list_of d)) file_is
+    ∙ (mend_tied c z).twice (out_of d) (list_of d) long
+    ∙ ap (λ (f : List ℕ). (nothing_done, overlay f (out_of d), list_of d)) (sym file_is)
 
 -- a call on a file that the check's call accepts, with zero padding
 pub good_tied : (c : MendCall) (k : CheckBitmap) → k.args.0 ≡ panel_of c → k.args.1.0.now ≡ file_of c → k.result ≡ 0

@@ -1,39 +1,12 @@
-use Rattle.std.proofs.Common.{◌≡◌, ◌-◌, ◌<◌, ◌≤◌, length, drop, refl, ◌∙◌, arith}
-use Rattle.update_loop.specs.Loop.{chunks_of, fed_all}
-use Rattle.update_loop.proofs.Chunks.{chunk_some, none_fed, all_fed, one_fed}
+-- Nothing is fed with a size of 0; else each turn of the loop feeds one chunk. Assumes nothing.
+use Rattle.std.proofs.Common.{◌∙◌, arith}
+use Rattle.update_loop.proofs.Chunks.{none_fed, all_fed, one_fed}
 use Rattle.update_loop.proofs.feed.Goals as goal
 
 pub returns-then-size-eq0 : goal.returns-then-size-eq0
 returns-then-size-eq0 c =
     let a = c.args in
     none_fed a.bitmap.now a.state a.memory.now a.size c.if-size-eq0.true
-
-pub loop-at-init : goal.loop-at-init
-loop-at-init c = (refl, omega arith, omega arith, refl)
-
-pub slice_bounds-feed_fill-count : goal.slice_bounds-feed_fill-count
-slice_bounds-feed_fill-count c =
-    let a = c.args in
-    let l = c.loop-at in
-    let e = c.after-end.ensures.0 in
-    omega (arith, chunk_some a.bitmap.now l.at a.size (omega arith) (omega arith), e)
-
-pub slice_bounds-feed_fill-start : goal.slice_bounds-feed_fill-start
-slice_bounds-feed_fill-start c =
-    let a = c.args in
-    let l = c.loop-at in
-    let e = c.after-end.ensures.0 in
-    omega (arith, chunk_some a.bitmap.now l.at a.size (omega arith) (omega arith), e)
-
-pub feed_fill-fed-requires : goal.feed_fill-fed-requires
-feed_fill-fed-requires c = tt
-
-pub loop-at-smaller : goal.loop-at-smaller
-loop-at-smaller c =
-    let a = c.args in
-    let l = c.loop-at in
-    let e = c.after-end.ensures.0 in
-    omega (arith, chunk_some a.bitmap.now l.at a.size (omega arith) (omega arith), e)
 
 pub loop-at-preserved : goal.loop-at-preserved
 loop-at-preserved c =

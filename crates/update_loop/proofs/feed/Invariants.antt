@@ -1,8 +1,7 @@
 -- The loop goes over what is left of the file: feeding it from where the loop stands ends as feeding all of it from the start does.
 -- Assumes nothing.
-use Rattle.std.proofs.Common.{◌≡◌, ◌-◌, ◌<◌, ◌≤◌, length, drop, refl, ◌∙◌, arith}
+use Rattle.std.proofs.Common.{◌≡◌, ◌-◌, ◌<◌, ◌≤◌, length, drop}
 use Rattle.update_loop.specs.Loop.{chunks_of, fed_all}
-use Rattle.update_loop.proofs.Chunks.{chunk_some, none_fed, all_fed, one_fed}
 use Rattle.update_loop.proofs.feed.Given as goal
 
 abbrev pub invariant-loop-at : goal.invariant-loop-at

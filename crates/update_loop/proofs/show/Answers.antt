@@ -1,19 +1,9 @@
-use Rattle.std.proofs.Common.{◌≡◌, ◌<◌, ◌≤◌, length, refl, ◌∙◌, ⊎_elim, arith, rules}
-use Rattle.update_loop.specs.Loop.{showing, shown}
+-- A turn of the loop goes on by the answer of its poll, and each end is that of `shown`. Assumes nothing.
+use Rattle.std.proofs.Common.{◌<◌, ◌∙◌, arith}
+use Rattle.update_loop.specs.Loop.{showing}
 use Rattle.update_loop.proofs.Loop.{from_start_lem, no_poll_left, after_write_lem, after_line, after_wait, after_done_lem, after_refusal}
 use Rattle.update_loop.proofs.show.Goals as goal
-
-pub start-started-requires : goal.start-started-requires
-start-started-requires c = tt
-
-pub loop-left-init : goal.loop-left-init
-loop-left-init c = (refl, refl, omega arith, refl)
-
-pub poll-polled-requires : goal.poll-polled-requires
-poll-polled-requires c = tt
-
-pub wrapping_add_u32-tick-requires : goal.wrapping_add_u32-tick-requires
-wrapping_add_u32-tick-requires c = tt
+use Rattle.update_loop.proofs.show.Goals.{in-Write, in-Line, in-Wait}
 
 pub returns-in-Done : goal.returns-in-Done
 returns-in-Done c =
@@ -38,13 +28,18 @@ loop-left-preserved c =
     let e = c.poll-polled.ensures in (
       omega arith,
       omega arith,
-      ⊎_elim (λ w. omega (arith, w)) (⊎_elim (λ w. omega (arith, w)) (λ w. omega (arith, w))) c.in-Write.branch,
-      ⊎_elim
-          (λ w. after_write_lem l.left l.state l.tick l.memory l.bus l.at some e w.1.given.0.0 w.1.given.1 w.5 (w.6 ∙ w.4.ensures.0) ∙ l.invariant.3)
-          (⊎_elim
-          (λ w. after_line l.left l.state l.tick l.memory l.bus l.at some e w.1.given.0.0 w.1.given.1 w.5 (w.6 ∙ w.4.ensures.0) ∙ l.invariant.3)
-          (λ w. after_wait l.left l.state l.tick l.memory l.bus l.at some e w.1.given.0.0 w.1.given.1 (w.4 ∙ w.3.ensures) w.5 ∙ l.invariant.3))
-          c.in-Write.branch,
+      elim c.match-answer.branch [ in-Write w ↦ omega arith | in-Line w ↦ omega arith | in-Wait w ↦ omega arith ],
+      elim c.match-answer.branch [
+        | in-Write w ↦
+            after_write_lem l.left l.state l.tick l.memory l.bus l.at some e w.in-Write.n w.in-Write.is w.tick-is (w.at-is ∙ w.after-at.ensures.0)
+            ∙ l.invariant.3
+        | in-Line w ↦
+            after_line l.left l.state l.tick l.memory l.bus l.at some e w.in-Line.n w.in-Line.is w.tick-is (w.at-is ∙ w.after-at-in-Line.ensures.0)
+            ∙ l.invariant.3
+        | in-Wait w ↦
+            after_wait l.left l.state l.tick l.memory l.bus l.at some e w.in-Wait.ms w.in-Wait.is (w.tick-is ∙ w.wrapping_add_u32-tick.ensures.value) w.at-is
+            ∙ l.invariant.3
+      ],
     )
 
 pub returns : goal.returns

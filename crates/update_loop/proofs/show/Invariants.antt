@@ -1,8 +1,7 @@
 -- The loop goes over what is left of `shown`: with fewer polls left, from where it stands, it ends as it would have from the start.
 -- Assumes nothing.
-use Rattle.std.proofs.Common.{◌≡◌, ◌<◌, ◌≤◌, length, refl, ◌∙◌, ⊎_elim, arith, rules}
+use Rattle.std.proofs.Common.{◌≡◌, ◌≤◌, length}
 use Rattle.update_loop.specs.Loop.{showing, shown}
-use Rattle.update_loop.proofs.Loop.{from_start_lem, no_poll_left, after_write_lem, after_line, after_wait, after_done_lem, after_refusal}
 use Rattle.update_loop.proofs.show.Given as goal
 
 abbrev pub invariant-loop-left : goal.invariant-loop-left

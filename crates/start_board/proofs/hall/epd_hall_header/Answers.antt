@@ -1,7 +1,7 @@
 -- The two refusals, or the header laid over the output's front.
 -- Assumes nothing.
 use borrow.Author.Rules.{rules}
-use Rattle.start_board.proofs.HallWords.{header_refused, header_short, header-fits, header_given}
+use Rattle.start_board.proofs.HallWords.{header_refused, header_short, header_given}
 use Rattle.start_board.proofs.hall.epd_hall_header.Goals as goal
 
 pub returns-then-number-ne0 : goal.returns-then-number-ne0
@@ -14,19 +14,11 @@ returns-then-out-lt16 c =
     let a = c.args in
     search (rules, header_short a.panel a.depth a.out.now c.make_header-header.ensures c.if-number-ne0.false c.if-out-lt16.true)
 
-pub put_at-requires : goal.put_at-requires
-put_at-requires c =
-    let c₁ = c in
-    let a = c₁.args in
-    header-fits a.panel a.depth a.out.now c₁.make_header-header.ensures c.if-number-ne0.false c.if-out-lt16.false
-
 pub returns : goal.returns
 returns c =
-    let c₂ = c in
-    let c₁ = c₂ in
-    let a = c₁.args in
+    let a = c.args in
     search (
       rules,
-      header_given a.panel a.depth a.out.now c₁.make_header-header.ensures c₂.if-number-ne0.false c₂.if-out-lt16.false
+      header_given a.panel a.depth a.out.now c.make_header-header.ensures c.if-number-ne0.false c.if-out-lt16.false
           c.put_at.ensures,
     )
