@@ -6,6 +6,7 @@ mod script;
 ghost use Rattle.std.specs.Prelude.{◌≡◌, ◌≤◌, length};
 
 use session::{Session, text};
+use std::io::{Read, Write};
 
 // The answers are written out once they have grown to this length. The longest answer is 12,805 bytes, so a buffer of 65,536 has
 // room for one more.
@@ -31,12 +32,12 @@ fn memory_room() -> [u8; 46464]
 }
 
 // Writes out the answers that wait for it.
-fn flush(text: &[u8], session: Session) -> Session {
+fn flush<W: Write>(out: &mut W, text: &[u8], session: Session) -> std::io::Result<Session> {
     let k = session::within(text, session.end);
-    io::write_all(libc::STDOUT_FILENO, &text[..k]);
+    out.write_all(&text[..k])?;
     let mut after = session;
     after.end = 0;
-    after
+    Ok(after)
 }
 
 // Answers the line that was read. `line` has room for one byte more than a line may have, so one that fills it is too long.
@@ -53,12 +54,18 @@ fn answer_line(text: &mut [u8], memory: &mut [u8], session: Session, line: &[u8]
 }
 
 // Ends the line: answers it, and writes the answers out where they have grown long.
-fn end_line(text: &mut [u8], memory: &mut [u8], session: Session, line: &[u8]) -> Session {
+fn end_line<W: Write>(
+    out: &mut W,
+    text: &mut [u8],
+    memory: &mut [u8],
+    session: Session,
+    line: &[u8],
+) -> std::io::Result<Session> {
     let after = answer_line(text, memory, session, line);
     if after.end < FULL {
-        return after;
+        return Ok(after);
     }
-    flush(text, after)
+    flush(out, text, after)
 }
 
 // The index of the first line end from index `from` on, or the length where there is none.
@@ -77,40 +84,53 @@ fn line_end(input: &[u8], from: usize) -> usize
 }
 
 // Reads all lines that the input has, and keeps what stands after the last line end.
-fn take_input(
+fn take_input<W: Write>(
+    out: &mut W,
     text: &mut [u8],
     memory: &mut [u8],
     session: Session,
     line: &mut [u8],
     input: &[u8],
-) -> Session {
+) -> std::io::Result<Session> {
     let mut after = session;
     let mut at: usize = 0;
     while at < input.len() {
         let end = line_end(input, at);
         after.pending = text::put(line, after.pending, &input[at..end]);
         if input.len() <= end {
-            return after;
+            return Ok(after);
         }
         at = end + 1;
-        after = end_line(text, memory, after, line);
+        after = end_line(out, text, memory, after, line)?;
     }
-    after
+    Ok(after)
 }
 
 // Reads once, and answers what came.
-fn turn(text: &mut [u8], memory: &mut [u8], session: Session, line: &mut [u8]) -> Session {
+fn turn<R: Read, W: Write>(
+    reader: &mut R,
+    out: &mut W,
+    text: &mut [u8],
+    memory: &mut [u8],
+    session: Session,
+    line: &mut [u8],
+) -> std::io::Result<Session> {
     let mut input = io::large_buffer();
-    let got = libc::read(libc::STDIN_FILENO, &mut input);
-    let n = io::count(got, &input);
-    let mut after = take_input(text, memory, session, line, &input[..n]);
+    let n = reader.read(&mut input)?;
+    let mut after = take_input(out, text, memory, session, line, &input[..n])?;
     after.more = 0 < n;
-    flush(text, after)
+    flush(out, text, after)
 }
 
-// Reads to the end of the input. A proved loop has to end, and nothing says that the input does, so the loop counts its turns
-// down from a number that no run uses up.
-fn read_all(text: &mut [u8], memory: &mut [u8], line: &mut [u8]) -> Session {
+// Reads to the end of the input. A proved loop has to end, and nothing says that the input does, so the loop counts its turns up to a
+// number that no run reaches.
+fn read_all<R: Read, W: Write>(
+    reader: &mut R,
+    out: &mut W,
+    text: &mut [u8],
+    memory: &mut [u8],
+    line: &mut [u8],
+) -> std::io::Result<Session> {
     let mut session = Session {
         state: board::empty_state(),
         lent: 0,
@@ -118,34 +138,51 @@ fn read_all(text: &mut [u8], memory: &mut [u8], line: &mut [u8]) -> Session {
         end: 0,
         more: true,
     };
-    let mut turns = u64::MAX;
-    while turns > 0 {
-        session = turn(text, memory, session, line);
+    for _ in 0..u64::MAX {
+        session = turn(reader, out, text, memory, session, line)?;
         if !session.more {
-            return session;
+            return Ok(session);
         }
-        turns -= 1;
     }
-    session
+    Ok(session)
 }
 
 // Answers a last line that has no line end.
-fn end_input(text: &mut [u8], memory: &mut [u8], session: Session, line: &[u8]) {
+fn end_input<W: Write>(
+    out: &mut W,
+    text: &mut [u8],
+    memory: &mut [u8],
+    session: Session,
+    line: &[u8],
+) -> std::io::Result<()> {
     if session.pending == 0 {
-        return;
+        return Ok(());
     }
-    let after = end_line(text, memory, session, line);
-    flush(text, after);
+    let after = end_line(out, text, memory, session, line)?;
+    flush(out, text, after)?;
+    Ok(())
 }
 
-fn replay(text: &mut [u8], memory: &mut [u8], line: &mut [u8]) {
-    let session = read_all(text, memory, line);
-    end_input(text, memory, session, line);
+fn replay<R: Read, W: Write>(
+    reader: &mut R,
+    out: &mut W,
+    text: &mut [u8],
+    memory: &mut [u8],
+    line: &mut [u8],
+) -> std::io::Result<()> {
+    let session = read_all(reader, out, text, memory, line)?;
+    end_input(out, text, memory, session, line)
 }
 
-fn main() {
+fn main(rt: HostRuntime) -> std::io::Result<()> {
     let mut text = io::large_buffer();
     let mut memory = memory_room();
     let mut line = line_room();
-    replay(&mut text, &mut memory, &mut line);
+    replay(
+        &mut rt.stdin(),
+        &mut rt.stdout(),
+        &mut text,
+        &mut memory,
+        &mut line,
+    )
 }
