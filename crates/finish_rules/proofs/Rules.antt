@@ -65,7 +65,7 @@ accepted otp good new shown (past l (past s (past g (past p rest)))) =
     record {
       otp_whole = eqb-true _ _ (not-false _ l);
       stages_good = not-false _ s;
-      in_range_lem = not-false _ g;
+      in_range = not-false _ g;
       picture = and_left (is_picture new) (eqb new shown) both;
       same_size = eqb-true _ _ (and_right (is_picture new) (eqb new shown) both);
     }
@@ -73,5 +73,5 @@ accepted otp good new shown (past l (past s (past g (past p rest)))) =
 pub none_refused : {otp : List ℕ} {good : Bool} {new shown : ℕ} → Accepted otp good new shown → None (refusals otp good new shown)
 none_refused {otp} {good} {new} {shown} a =
     none_of (refusals otp good new shown) refl
-    (number_0 otp good new shown a.otp_whole a.stages_good a.in_range_lem a.picture a.same_size)
+    (number_0 otp good new shown a.otp_whole a.stages_good a.in_range a.picture a.same_size)
     refl

@@ -54,6 +54,6 @@ refusals otp temperature_good new_length shown_length =
 pub record Accepted (otp : List ℕ) (temperature_good : Bool) (new_length shown_length : ℕ) : Type 0 where
   pub otp_whole : length otp ≡ otp_length
   pub stages_good : stages_good otp ≡ true
-  pub in_range_lem : temperature_good ≡ true
+  pub in_range : temperature_good ≡ true
   pub picture : is_picture new_length ≡ true
   pub same_size : new_length ≡ shown_length

@@ -159,7 +159,7 @@ module _ (panel : ℕ) where
           back = back;
           passes = check_file panel m b h s true was.is-panel refl refl refl (sym good);
           twice = good_kept m was.is-panel good (mended_padding b h s file);
-          in_order_lem = ap (rising 0 (length file)) offsets ∙ in_order_lem file (mended_byte b h s file) (length file);
+          in_order = ap (rising 0 (length file)) offsets ∙ in_order_lem file (mended_byte b h s file) (length file);
           unlisted = λ k l d.
               byte_mended b h s file k (omega (arith, short))
               ∙ unlisted_stays file (mended_byte b h s file) (length file) k l (λ i. d (rw offsets i));

@@ -38,7 +38,7 @@ pub record Promised (panel : ℕ) (file : List ℕ) (answer : Mended) (mended li
   -- mending it again changes nothing more
   pub twice : NothingToMend panel mended
   -- the list is in file order, and every offset of it lies in the old file
-  pub in_order_lem : rising 0 (length file) (offsets_in answer.changes list) ≡ true
+  pub in_order : rising 0 (length file) (offsets_in answer.changes list) ≡ true
   -- a byte that is not listed is as before
   pub unlisted : (k : ℕ) → k < length file → (Memᴰ k (offsets_in answer.changes list) → ⊥) → get_or mended k 0 ≡ get_or file k 0
   -- and so is one that is in none of the four fields, and no padding

@@ -495,7 +495,7 @@ module _ (state : State) (memory : List ℕ) (slot : ℕ) (accepted : (fill_begi
       filled : Filled (the_begin state memory slot) slot calls place
       filled =
           record {
-            so_far_lem = λ begun. (now_going begun).slot_is;
+            so_far = λ begun. (now_going begun).slot_is;
             taken =
                 λ chunk is new e.
                 let begun = begins_front (sent_by calls) chunk b₂ h₂ s₂ e in

@@ -116,7 +116,7 @@ module _ (begin : Parts) (slot : ℕ) where
   -- what holds of a call, where these calls have come since the begin
   pub record Filled (calls : List Call) (p : Parts) : Type 0 where
     -- the slot has the rows that came whole over what was there before
-    pub so_far_lem : begins begin.state (sent_by calls) ≡ true
+    pub so_far : begins begin.state (sent_by calls) ≡ true
         → bytes_at begin.state p.memory slot ≡ rows_over begin.state (sent_by calls) (bytes_at begin.state begin.memory slot)
     -- a chunk is taken where the bytes so far then begin a good file, and the first where they do not earns 4
     pub taken : (chunk : List ℕ) → p.call ≡ feed_fill chunk → AreBytes chunk → begins begin.state (sent_by calls ++ chunk) ≡ true

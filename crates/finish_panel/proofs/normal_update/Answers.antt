@@ -34,7 +34,7 @@ normal_index-requires c =
     let number : c.refusal-number.result ≡ first_of cases (λ n. n) 0 = rw (c.normal_good.ensures, handed) at c.refusal-number.ensures in
     let free : None cases = none_of cases refl number c.if-number-ne0.false in
     let f = accepted _ _ _ _ free in
-    rw handed f.in_range_lem
+    rw handed f.in_range
 
 pub give_next-requires : goal.give_next-requires
 give_next-requires c =

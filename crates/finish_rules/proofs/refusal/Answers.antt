@@ -33,33 +33,33 @@ returns-then-not-temperature_good c =
 pub returns-then-not-is_picture : goal.returns-then-not-is_picture
 returns-then-not-is_picture c =
     let stages : stages_good c.args.otp.now ≡ true = passed c.stages_good.ensures (ap not c.if-not-stages_good.false) in
-    let in_range_lem : c.args.temperature_good ≡ true = not-false _ (ap not c.if-not-temperature_good.false) in
+    let in_range : c.args.temperature_good ≡ true = not-false _ (ap not c.if-not-temperature_good.false) in
     let a = c.args in
     number_21 a.otp.now a.temperature_good a.new_length a.shown_length c.if-otp-ne128.false
     stages
-    in_range_lem
+    in_range
     (refused c.is_picture.ensures (ap not c.if-not-is_picture.true))
 
 pub returns-then-new_length-shown_length : goal.returns-then-new_length-shown_length
 returns-then-new_length-shown_length c =
     let stages : stages_good c.args.otp.now ≡ true = passed c.stages_good.ensures (ap not c.if-not-stages_good.false) in
-    let in_range_lem : c.args.temperature_good ≡ true = not-false _ (ap not c.if-not-temperature_good.false) in
+    let in_range : c.args.temperature_good ≡ true = not-false _ (ap not c.if-not-temperature_good.false) in
     let picture : is_picture c.args.new_length ≡ true = passed c.is_picture.ensures (ap not c.if-not-is_picture.false) in
     let a = c.args in
     number_21_two a.otp.now a.temperature_good a.new_length a.shown_length c.if-otp-ne128.false
     stages
-    in_range_lem
+    in_range
     picture
     c.if-new_length-shown_length.true
 
 pub returns : goal.returns
 returns c =
     let stages : stages_good c.args.otp.now ≡ true = passed c.stages_good.ensures (ap not c.if-not-stages_good.false) in
-    let in_range_lem : c.args.temperature_good ≡ true = not-false _ (ap not c.if-not-temperature_good.false) in
+    let in_range : c.args.temperature_good ≡ true = not-false _ (ap not c.if-not-temperature_good.false) in
     let picture : is_picture c.args.new_length ≡ true = passed c.is_picture.ensures (ap not c.if-not-is_picture.false) in
     let a = c.args in
     number_0 a.otp.now a.temperature_good a.new_length a.shown_length c.if-otp-ne128.false
     stages
-    in_range_lem
+    in_range
     picture
     c.if-new_length-shown_length.false
