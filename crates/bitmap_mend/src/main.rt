@@ -5,7 +5,8 @@
 
 ghost use Rattle.std.specs.Prelude.{◌≡◌, ◌+◌, ◌*◌, ◌<◌, ◌≤◌, length};
 
-use libc::{STDERR_FILENO, STDIN_FILENO, STDOUT_FILENO};
+use std::env::Env;
+use std::io;
 
 // The panel that an argument names by one digit; any other argument names none.
 fn panel_from(text: &[u8]) -> u32 {
@@ -31,9 +32,10 @@ fn hex_digit(n: u8) -> u8
 }
 
 // A space and a byte in two digits.
-fn print_byte(byte: u8) {
-    let text = [b' ', hex_digit(byte / 16), hex_digit(byte % 16)];
-    io::write_all(STDERR_FILENO, &text);
+fn print_byte(rt: &impl Eprint, byte: u8) -> io::Result<()> {
+    let high = char::from(hex_digit(byte / 16));
+    let low = char::from(hex_digit(byte % 16));
+    eprint!(rt; " {high}{low}")
 }
 
 fn wide(byte: u8) -> u64
@@ -43,56 +45,55 @@ fn wide(byte: u8) -> u64
 }
 
 // The line of the change whose four bytes stand at an index of the list.
-fn print_change(list: &[u8], at: usize)
+fn print_change(rt: &impl Eprint, list: &[u8], at: usize) -> io::Result<()>
     requires { at + 4 ≤ length list.now }
 {
-    io::print_decimal(STDERR_FILENO, 256 * wide(list[at]) + wide(list[at + 1]));
-    print_byte(list[at + 2]);
-    print_byte(list[at + 3]);
-    io::write_all(STDERR_FILENO, b"\n");
+    let offset = 256 * wide(list[at]) + wide(list[at + 1]);
+    eprint!(rt; "{offset}")?;
+    print_byte(rt, list[at + 2])?;
+    print_byte(rt, list[at + 3])?;
+    eprintln!(rt)
 }
 
-fn print_changes(list: &[u8], changes: usize)
+fn print_changes(rt: &impl Eprint, list: &[u8], changes: usize) -> io::Result<()>
     requires { 4 * changes ≤ length list.now }
 {
-    let mut i: usize = 0;
-    while i < changes {
-        print_change(list, 4 * i);
-        i += 1;
+    for i in 0..changes {
+        print_change(rt, list, 4 * i)?;
     }
+    Ok(())
 }
 
-fn print_added(offset: usize, count: usize) {
+fn print_added(rt: &impl Eprint, offset: usize, count: usize) -> io::Result<()> {
     if count == 0 {
-        return;
+        return Ok(());
     }
-    io::write_all(STDERR_FILENO, b"added ");
-    io::print_decimal(STDERR_FILENO, offset as u64);
-    io::write_all(STDERR_FILENO, b" ");
-    io::print_decimal(STDERR_FILENO, count as u64);
-    io::write_all(STDERR_FILENO, b"\n");
+    eprintln!(rt; "added {offset} {count}")
 }
 
-fn print_refusal(number: u8) {
-    io::write_all(STDERR_FILENO, b"refused ");
-    io::print_decimal(STDERR_FILENO, wide(number));
-    io::write_all(STDERR_FILENO, b"\n");
+fn print_refusal(rt: &impl Eprint, number: u8) -> io::Result<()> {
+    eprintln!(rt; "refused {number}")
 }
 
 // Mends a file into room for the longest file and list, and puts out what there is to say of it.
-fn mend_into(panel: u32, file: &[u8], out: &mut [u8], list: &mut [u8])
+fn mend_into(
+    rt: &(impl Print + Eprint),
+    panel: u32,
+    file: &[u8],
+    out: &mut [u8],
+    list: &mut [u8],
+) -> io::Result<()>
     requires { (length out.old ≡ 6398) × (length list.old ≡ 2176) }
 {
     let answer = mend::mend(panel, file, out, list);
     let number = answer.number;
     if number != 0 {
-        print_refusal(number);
-        return;
+        return print_refusal(rt, number);
     }
     let full = file.len() + answer.added;
-    io::write_all(STDOUT_FILENO, &out[..full]);
-    print_changes(list, answer.changes);
-    print_added(answer.offset, answer.added);
+    rt.write_all(&out[..full])?;
+    print_changes(rt, list, answer.changes)?;
+    print_added(rt, answer.offset, answer.added)
 }
 
 // Room for the longest file.
@@ -109,13 +110,15 @@ fn largest_list() -> [u8; 2176]
     [0; 2176]
 }
 
-fn main() {
+fn main(rt: HostRuntime) -> io::Result<()> {
+    // An argument that is missing, or longer than a digit, is as an empty one.
     let mut code = [0u8; 1];
-    let digits = os::arg(1, &mut code);
+    let digits = rt.arg(1, &mut code).unwrap_or(0);
     // One byte more than the longest file: a longer input fills it, and no file of this length can be mended.
     let mut file = [0u8; 6399];
-    let n = io::read_full(STDIN_FILENO, &mut file);
+    let n = input::fill(&mut rt.stdin(), &mut file)?;
     let mut out = largest_file();
     let mut list = largest_list();
-    mend_into(panel_from(&code[..digits]), &file[..n], &mut out, &mut list);
+    let panel = panel_from(&code[..digits]);
+    mend_into(&rt, panel, &file[..n], &mut out, &mut list)
 }

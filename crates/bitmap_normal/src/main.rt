@@ -7,8 +7,6 @@ ghost use Rattle.panel.specs.Panels.{row_bytes_of, rows_of, stride_of};
 ghost use Rattle.bitmap.specs.Header.{file_length};
 ghost use Rattle.bitmap_normal.specs.Normal.{normalized};
 
-use libc::{STDIN_FILENO, STDOUT_FILENO};
-
 // The file in normal form, by way of the picture that it holds. `picture` is room for exactly one.
 fn normalize(b: usize, h: usize, s: usize, file: &[u8], picture: &mut [u8], out: &mut [u8]) -> usize
     requires { (0 < b) × (b ≤ 33) × (b ≤ s) × (s ≤ 36) × (h ≤ 176) × (length picture.old ≡ h * b)
@@ -64,15 +62,14 @@ fn largest_file() -> [u8; 6398]
     [0; 6398]
 }
 
-fn main() {
+fn main(rt: HostRuntime) -> std::io::Result<()> {
     // One byte more than the longest file: a longer input fills it, and no file has this length.
     let mut file = [0u8; 6399];
+    let n = input::fill(&mut rt.stdin(), &mut file)?;
     let mut out = largest_file();
-    let n = io::read_full(STDIN_FILENO, &mut file);
     let len = normalize_for(panel_for(n), &file[..n], &mut out);
     if len == 0 {
-        io::write_all(STDOUT_FILENO, b"refused 4\n");
-        return;
+        return println!(rt; "refused 4");
     }
-    io::write_all(STDOUT_FILENO, &out[..len]);
+    rt.write_all(&out[..len])
 }

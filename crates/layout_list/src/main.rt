@@ -8,7 +8,6 @@ ghost use Rattle.layout.specs.Tiling.{Inside};
 ghost use Rattle.layout_list.specs.Text.{leaf_line, leaf_lines, answer_text, layout_text, Drawn};
 
 use layout::{Leaves, Rect};
-use libc::{STDIN_FILENO, STDOUT_FILENO};
 
 // Puts text into `out` from index `at` on, and answers the index after it. All functions here do so, each with its own text.
 fn put_text(out: &mut [u8], at: usize, text: &[u8]) -> usize
@@ -83,11 +82,11 @@ fn put_layout(out: &mut [u8], input: &[u8]) -> usize
     put_answer(out, answer)
 }
 
-fn main() {
+fn main(rt: HostRuntime) -> std::io::Result<()> {
     // The code, and one byte more than the longest list: a longer input fills it, and no list of this length is good.
-    let mut input = [0u8; 193];
+    let mut given = [0u8; 193];
+    let n = input::fill(&mut rt.stdin(), &mut given)?;
     let mut text = [0u8; 1024];
-    let n = io::read_full(STDIN_FILENO, &mut input);
-    let len = put_layout(&mut text, &input[..n]);
-    io::write_all(STDOUT_FILENO, &text[..len]);
+    let len = put_layout(&mut text, &given[..n]);
+    rt.write_all(&text[..len])
 }

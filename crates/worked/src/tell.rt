@@ -1,41 +1,47 @@
 // What the program prints.
 use board::State;
-use libc::STDOUT_FILENO;
 use poll::Answer;
 use run::Tick;
+use std::io;
 
-pub fn text(bytes: &[u8]) {
-    io::write_all(STDOUT_FILENO, bytes);
+pub fn text(rt: &impl Print, words: &str) -> io::Result<()> {
+    print!(rt; "{words}")
 }
 
 // A word and a number.
-pub fn number(word: &[u8], n: u64) {
-    text(word);
-    io::print_decimal(STDOUT_FILENO, n);
+pub fn number(rt: &impl Print, word: &str, n: u64) -> io::Result<()> {
+    print!(rt; "{word}{n}")
 }
 
 // A word, a number, and the end of the line.
-pub fn count(word: &[u8], n: u64) {
-    number(word, n);
-    text(b"\n");
+pub fn count(rt: &impl Print, word: &str, n: u64) -> io::Result<()> {
+    number(rt, word, n)?;
+    println!(rt)
 }
 
 // A poll's answer on a line: the number of a refusal, or the kind, with the ms of a wait.
-pub fn answer(answer: Answer) {
+pub fn answer(rt: &impl Print, answer: Answer) -> io::Result<()> {
     match answer {
-        Answer::Refused(number) => count(b"", number as u64),
-        Answer::Write(_) => text(b"write\n"),
-        Answer::Line(_) => text(b"line\n"),
-        Answer::Wait(ms) => count(b"wait ", ms as u64),
-        Answer::Done => text(b"done\n"),
+        Answer::Refused(number) => println!(rt; "{number}"),
+        Answer::Write(_) => println!(rt; "write"),
+        Answer::Line(_) => println!(rt; "line"),
+        Answer::Wait(ms) => println!(rt; "wait {ms}"),
+        Answer::Done => println!(rt; "done"),
     }
 }
 
 // Polls at a tick, prints the words and the answer, and gives back the next state.
-pub fn poll(words: &[u8], state: State, tick: u32, memory: &mut [u8], out: &mut [u8]) -> State {
+pub fn poll(
+    rt: &impl Print,
+    words: &str,
+    state: State,
+    tick: u32,
+    memory: &mut [u8],
+    out: &mut [u8],
+) -> io::Result<State> {
     let polled = state.poll(Tick(tick), memory, out);
     let said = polled.answer;
-    text(words);
-    answer(said);
-    polled.state
+    text(rt, words)?;
+    answer(rt, said)?;
+    Ok(polled.state)
 }

@@ -4,6 +4,7 @@ use crate::made;
 use bitmap::Palette;
 use board::State;
 use fill::Fill;
+use std::io;
 use store::Store;
 
 // The state with another fill.
@@ -24,12 +25,12 @@ fn with_fill(state: State, fill: Fill) -> State {
 }
 
 // Polls a store with no run and a made-up fill: one that breaks a condition, and one that just keeps it.
-fn broken(letter: &[u8], fill: Fill) {
-    made::breaks(letter, with_fill(made::opened(), fill));
+fn broken(rt: &impl Print, letter: &str, fill: Fill) -> io::Result<()> {
+    made::breaks(rt, letter, with_fill(made::opened(), fill))
 }
 
-fn kept(letter: &[u8], fill: Fill) {
-    made::keeps(letter, with_fill(made::opened(), fill));
+fn kept(rt: &impl Print, letter: &str, fill: Fill) -> io::Result<()> {
+    made::keeps(rt, letter, with_fill(made::opened(), fill))
 }
 
 // ---- made-up fills, of slot 1 where none is named
@@ -119,82 +120,84 @@ fn with_no_slot(fill: Fill) -> Fill {
 // ---- the conditions
 
 // (n) and (o), on the slot. With n = 2 the memory is too short, which is 1.
-fn slot() {
-    broken(b"n", fill::begun(2));
-    broken(b"n", fill::begun(4294967295));
-    kept(b"n", fill::begun(1));
+fn slot(rt: &impl Print) -> io::Result<()> {
+    broken(rt, "n", fill::begun(2))?;
+    broken(rt, "n", fill::begun(4294967295))?;
+    kept(rt, "n", fill::begun(1))?;
     made::keeps(
-        b"n",
+        rt,
+        "n",
         with_fill(made::with_slots(made::opened(), 2), fill::begun(2)),
-    );
+    )?;
     let run = made::run(1, 0, 5, 5, made::line(1, 0, 1));
     let running = made::with_run(made::opened(), run);
-    made::breaks(b"o", with_fill(running, fill::begun(1)));
-    made::keeps(b"o", running);
+    made::breaks(rt, "o", with_fill(running, fill::begun(1)))?;
+    made::keeps(rt, "o", running)?;
     made::keeps(
-        b"o",
+        rt,
+        "o",
         with_fill(made::with_slots(running, 2), fill::begun(2)),
-    );
+    )
 }
 
 // (p), on how many bytes came: a file has 1,598.
-fn count() {
-    broken(b"p", late(1599, none()));
-    broken(b"p", late(usize::MAX, none()));
-    kept(b"p", late(1598, none()));
+fn count(rt: &impl Print) -> io::Result<()> {
+    broken(rt, "p", late(1599, none()))?;
+    broken(rt, "p", late(usize::MAX, none()))?;
+    kept(rt, "p", late(1598, none()))
 }
 
 // (q) before the header is whole, the bytes that came: at 35 the second byte of 1,536 or of 0, at 38 anything, at 46 the first byte of 0
 // or of 2, at 60 the last byte of white.
-fn begun_header() {
-    broken(b"q", early(1, with_byte(none(), 0, 0x43)));
-    broken(b"q", early(61, with_byte(header(), 35, 1)));
-    broken(b"q", early(61, with_byte(header(), 46, 1)));
-    broken(b"q", early(61, with_byte(header(), 60, 0xFE)));
-    kept(b"q", early(2, magic()));
-    kept(b"q", early(61, header()));
-    kept(b"q", early(61, with_byte(header(), 35, 0)));
-    kept(b"q", early(61, with_byte(header(), 38, 1)));
-    kept(b"q", early(61, with_byte(header(), 46, 2)));
+fn begun_header(rt: &impl Print) -> io::Result<()> {
+    broken(rt, "q", early(1, with_byte(none(), 0, 0x43)))?;
+    broken(rt, "q", early(61, with_byte(header(), 35, 1)))?;
+    broken(rt, "q", early(61, with_byte(header(), 46, 1)))?;
+    broken(rt, "q", early(61, with_byte(header(), 60, 0xFE)))?;
+    kept(rt, "q", early(2, magic()))?;
+    kept(rt, "q", early(61, header()))?;
+    kept(rt, "q", early(61, with_byte(header(), 35, 0)))?;
+    kept(rt, "q", early(61, with_byte(header(), 38, 1)))?;
+    kept(rt, "q", early(61, with_byte(header(), 46, 2)))
 }
 
 // (q), the palette: not known before the header is whole, and good then.
-fn palette() {
-    broken(b"q", with_palette(fill::empty(), Palette::BlackFirst));
-    broken(b"q", with_palette(fill::begun(1), Palette::WhiteFirst));
-    broken(b"q", late(2, magic()));
-    broken(b"q", early(62, none()));
-    broken(b"q", early(1598, none()));
-    kept(b"q", late(62, none()));
-    kept(b"q", with_palette(late(62, none()), Palette::WhiteFirst));
+fn palette(rt: &impl Print) -> io::Result<()> {
+    broken(rt, "q", with_palette(fill::empty(), Palette::BlackFirst))?;
+    broken(rt, "q", with_palette(fill::begun(1), Palette::WhiteFirst))?;
+    broken(rt, "q", late(2, magic()))?;
+    broken(rt, "q", early(62, none()))?;
+    broken(rt, "q", early(1598, none()))?;
+    kept(rt, "q", late(62, none()))?;
+    kept(rt, "q", with_palette(late(62, none()), Palette::WhiteFirst))
 }
 
 // (r): after what came of the header, and of a row of 16 bytes, there is 0.
-fn unused() {
-    broken(b"r", with_no_slot(early(0, with_byte(none(), 61, 1))));
-    broken(b"r", early(0, magic()));
-    broken(b"r", early(1, magic()));
-    broken(b"r", late(62, with_byte(none(), 0, 1)));
-    broken(b"r", late(77, with_byte(none(), 15, 1)));
-    broken(b"r", late(78, with_byte(none(), 0, 1)));
-    broken(b"r", late(1598, with_byte(none(), 61, 1)));
-    kept(b"r", late(63, with_byte(none(), 0, 1)));
-    kept(b"r", late(77, with_byte(none(), 14, 1)));
-    kept(b"r", late(78, none()));
+fn unused(rt: &impl Print) -> io::Result<()> {
+    broken(rt, "r", with_no_slot(early(0, with_byte(none(), 61, 1))))?;
+    broken(rt, "r", early(0, magic()))?;
+    broken(rt, "r", early(1, magic()))?;
+    broken(rt, "r", late(62, with_byte(none(), 0, 1)))?;
+    broken(rt, "r", late(77, with_byte(none(), 15, 1)))?;
+    broken(rt, "r", late(78, with_byte(none(), 0, 1)))?;
+    broken(rt, "r", late(1598, with_byte(none(), 61, 1)))?;
+    kept(rt, "r", late(63, with_byte(none(), 0, 1)))?;
+    kept(rt, "r", late(77, with_byte(none(), 14, 1)))?;
+    kept(rt, "r", late(78, none()))
 }
 
 // (s), with no slot.
-fn no_slot() {
-    broken(b"s", with_no_slot(early(2, magic())));
-    broken(b"s", with_no_slot(late(62, none())));
-    kept(b"s", fill::empty());
+fn no_slot(rt: &impl Print) -> io::Result<()> {
+    broken(rt, "s", with_no_slot(early(2, magic())))?;
+    broken(rt, "s", with_no_slot(late(62, none())))?;
+    kept(rt, "s", fill::empty())
 }
 
-pub fn examples() {
-    slot();
-    count();
-    begun_header();
-    palette();
-    unused();
-    no_slot();
+pub fn examples(rt: &impl Print) -> io::Result<()> {
+    slot(rt)?;
+    count(rt)?;
+    begun_header(rt)?;
+    palette(rt)?;
+    unused(rt)?;
+    no_slot(rt)
 }

@@ -3,6 +3,7 @@
 use board::State;
 use run::{Passed, Phase, Position, Run, Tick};
 use settings::Settings;
+use std::io;
 use store::Store;
 use worked::{rooms, tell};
 
@@ -88,32 +89,32 @@ fn with_bad_panel(state: State) -> State {
 }
 
 // Polls a made-up state, on a memory and an output of the poll's own, and prints the answer.
-fn ask(words: &[u8], state: State, tick: u32) -> State {
+fn ask(rt: &impl Print, words: &str, state: State, tick: u32) -> io::Result<State> {
     let mut memory = rooms::memory();
     let mut out = rooms::output();
-    tell::poll(words, state, tick, &mut memory, &mut out)
+    tell::poll(rt, words, state, tick, &mut memory, &mut out)
 }
 
 // The same at tick 0 of a state that breaks a condition, and of one that just keeps it.
-pub fn breaks(letter: &[u8], state: State) {
-    tell::text(b"condition ");
-    tell::text(letter);
-    ask(b": ", state, 0);
+pub fn breaks(rt: &impl Print, letter: &str, state: State) -> io::Result<()> {
+    print!(rt; "condition {letter}")?;
+    ask(rt, ": ", state, 0)?;
+    Ok(())
 }
 
-pub fn keeps(letter: &[u8], state: State) {
-    tell::text(b"kept ");
-    tell::text(letter);
-    ask(b": ", state, 0);
+pub fn keeps(rt: &impl Print, letter: &str, state: State) -> io::Result<()> {
+    print!(rt; "kept {letter}")?;
+    ask(rt, ": ", state, 0)?;
+    Ok(())
 }
 
 // The same of a made-up run, at its last tick.
-fn broken(letter: &[u8], run: Run) {
-    breaks(letter, with_run(opened(), run));
+fn broken(rt: &impl Print, letter: &str, run: Run) -> io::Result<()> {
+    breaks(rt, letter, with_run(opened(), run))
 }
 
-fn kept(letter: &[u8], run: Run) {
-    keeps(letter, with_run(opened(), run));
+fn kept(rt: &impl Print, letter: &str, run: Run) -> io::Result<()> {
+    keeps(rt, letter, with_run(opened(), run))
 }
 
 // A store with no run, of slots 0 and 1.
@@ -125,137 +126,141 @@ pub fn opened() -> State {
 }
 
 // Abandons a made-up state's run and prints the number.
-fn abandon(state: State) {
+fn abandon(rt: &impl Print, state: State) -> io::Result<()> {
     let memory = rooms::memory();
     let reply = state.abandon(&memory);
-    tell::count(b"abandon: ", reply.number as u64);
+    tell::count(rt, "abandon: ", reply.number as u64)
 }
 
 // ---- the end of passed time
 
 // Passed time 2^64 - 1: a step of 0 is taken, a step of 1 earns 10, and the run can still be abandoned.
-fn last_moment(state: State) {
+fn last_moment(rt: &impl Print, state: State) -> io::Result<()> {
     let full = with_run(state, run(1, 0, 0, u64::MAX, line(1, 0, 50)));
-    let after = ask(b"passed 2^64 - 1, step 0: ", full, 0);
-    let refused = ask(b"passed 2^64 - 1, step 1: ", after, 1);
-    abandon(refused);
+    let after = ask(rt, "passed 2^64 - 1, step 0: ", full, 0)?;
+    let refused = ask(rt, "passed 2^64 - 1, step 1: ", after, 1)?;
+    abandon(rt, refused)
 }
 
 // The longest step, and one that is no step forward.
-fn long_steps(state: State) {
+fn long_steps(rt: &impl Print, state: State) -> io::Result<()> {
     let made = with_run(state, run(1, 0, 0, 0, line(1, 0, 50)));
-    ask(b"step 2147483647: ", made, 2147483647);
-    ask(b"step 2147483648: ", made, 2147483648);
+    ask(rt, "step 2147483647: ", made, 2147483647)?;
+    ask(rt, "step 2147483648: ", made, 2147483648)?;
+    Ok(())
 }
 
 // F at 2^64 - 41: frame 1 is due 30 ms later, which passed time still reaches.
-fn late_first(state: State) {
+fn late_first(rt: &impl Print, state: State) -> io::Result<()> {
     let f = u64::MAX - 40;
     let made = with_run(state, run(1, f, f, f, line(1, 1, 0)));
-    ask(b"F at 2^64 - 41, step 0: ", made, 0);
-    ask(b"F at 2^64 - 41, step 29: ", made, 29);
-    ask(b"F at 2^64 - 41, step 30: ", made, 30);
-    ask(b"F at 2^64 - 41, step 40: ", made, 40);
-    ask(b"F at 2^64 - 41, step 41: ", made, 41);
+    ask(rt, "F at 2^64 - 41, step 0: ", made, 0)?;
+    ask(rt, "F at 2^64 - 41, step 29: ", made, 29)?;
+    ask(rt, "F at 2^64 - 41, step 30: ", made, 30)?;
+    ask(rt, "F at 2^64 - 41, step 40: ", made, 40)?;
+    ask(rt, "F at 2^64 - 41, step 41: ", made, 41)?;
+    Ok(())
 }
 
 // F, or the last line, at 2^64 - 1: the next thing is due beyond what passed time reaches.
-fn last_first(state: State) {
+fn last_first(rt: &impl Print, state: State) -> io::Result<()> {
     let end = u64::MAX;
     let made = with_run(state, run(1, end, end, end, line(1, 1, 0)));
-    ask(b"F at 2^64 - 1, step 0: ", made, 0);
-    ask(b"F at 2^64 - 1, step 1: ", made, 1);
+    ask(rt, "F at 2^64 - 1, step 0: ", made, 0)?;
+    ask(rt, "F at 2^64 - 1, step 1: ", made, 1)?;
     let stop = with_run(state, run(1, end - 1890, end, end, Position::Stop(0)));
-    ask(b"last line at 2^64 - 1, step 0: ", stop, 0);
-    ask(b"last line at 2^64 - 1, step 1: ", stop, 1);
+    ask(rt, "last line at 2^64 - 1, step 0: ", stop, 0)?;
+    ask(rt, "last line at 2^64 - 1, step 1: ", stop, 1)?;
+    Ok(())
 }
 
 // ---- the conditions
 
 // (a) and (b), of a store with no run, which is refused by 9 where it keeps them. With n = 7 the memory is too short, which is 1.
-fn store(state: State) {
-    breaks(b"a", with_len(state, 638));
-    breaks(b"a", with_len(state, 25));
-    breaks(b"a", with_len(state, 27));
-    breaks(b"a", with_bad_panel(state));
-    keeps(b"a", with_len(state, 26));
-    breaks(b"b", with_slots(state, 0));
-    breaks(b"b", with_slots(state, 8));
-    keeps(b"b", with_slots(state, 1));
-    keeps(b"b", with_slots(state, 7));
+fn store(rt: &impl Print, state: State) -> io::Result<()> {
+    breaks(rt, "a", with_len(state, 638))?;
+    breaks(rt, "a", with_len(state, 25))?;
+    breaks(rt, "a", with_len(state, 27))?;
+    breaks(rt, "a", with_bad_panel(state))?;
+    keeps(rt, "a", with_len(state, 26))?;
+    breaks(rt, "b", with_slots(state, 0))?;
+    breaks(rt, "b", with_slots(state, 8))?;
+    keeps(rt, "b", with_slots(state, 1))?;
+    keeps(rt, "b", with_slots(state, 7))
 }
 
 // (c) and (d), of a run anywhere.
-fn anywhere() {
-    broken(b"c", run(0, 0, 5, 5, line(1, 0, 1)));
-    broken(b"c", run(2, 0, 5, 5, line(1, 0, 1)));
-    kept(b"c", run(1, 0, 5, 5, line(1, 0, 1)));
-    broken(b"d", run(1, 0, 6, 5, line(1, 0, 1)));
-    kept(b"d", run(1, 0, 5, 6, line(1, 0, 1)));
+fn anywhere(rt: &impl Print) -> io::Result<()> {
+    broken(rt, "c", run(0, 0, 5, 5, line(1, 0, 1)))?;
+    broken(rt, "c", run(2, 0, 5, 5, line(1, 0, 1)))?;
+    kept(rt, "c", run(1, 0, 5, 5, line(1, 0, 1)))?;
+    broken(rt, "d", run(1, 0, 6, 5, line(1, 0, 1)))?;
+    kept(rt, "d", run(1, 0, 5, 6, line(1, 0, 1)))
 }
 
 // (e) to (h), before the first line.
-fn before_lines() {
-    broken(b"e", run(1, 0, 5, 5, Position::Start(4)));
-    kept(b"e", run(1, 0, 5, 5, Position::Start(3)));
-    broken(b"f", run(1, 0, 5, 5, Position::Start(1)));
-    kept(b"f", run(1, 0, 5, 5, Position::Start(2)));
-    broken(b"g", run(1, 0, 1, 5, Position::Start(0)));
-    kept(b"g", run(1, 0, 0, 4, Position::Start(0)));
-    broken(b"h", run(1, 1, 0, 5, Position::Start(0)));
-    broken(b"h", run(1, 1, 5, 5, Position::Start(2)));
-    kept(b"h", run(1, 0, 0, 5, Position::Start(0)));
+fn before_lines(rt: &impl Print) -> io::Result<()> {
+    broken(rt, "e", run(1, 0, 5, 5, Position::Start(4)))?;
+    kept(rt, "e", run(1, 0, 5, 5, Position::Start(3)))?;
+    broken(rt, "f", run(1, 0, 5, 5, Position::Start(1)))?;
+    kept(rt, "f", run(1, 0, 5, 5, Position::Start(2)))?;
+    broken(rt, "g", run(1, 0, 1, 5, Position::Start(0)))?;
+    kept(rt, "g", run(1, 0, 0, 4, Position::Start(0)))?;
+    broken(rt, "h", run(1, 1, 0, 5, Position::Start(0)))?;
+    broken(rt, "h", run(1, 1, 5, 5, Position::Start(2)))?;
+    kept(rt, "h", run(1, 0, 0, 5, Position::Start(0)))
 }
 
 // (i) and (j), among the lines.
-fn among_lines() {
-    broken(b"i", run(1, 0, 3000, 3000, line(0, 5, 5)));
-    broken(b"i", run(1, 0, 3000, 3000, line(5, 5, 5)));
-    broken(b"i", run(1, 0, 3000, 3000, line(2, 16, 5)));
-    broken(b"i", run(1, 0, 3000, 3000, line(2, 5, 96)));
-    kept(b"i", run(1, 0, 3000, 3000, line(1, 0, 1)));
-    kept(b"i", run(1, 0, 3000, 3000, line(4, 15, 95)));
-    broken(b"j", run(1, 0, 3000, 3000, line(1, 0, 0)));
-    kept(b"j", run(1, 0, 3000, 3000, line(2, 0, 0)));
+fn among_lines(rt: &impl Print) -> io::Result<()> {
+    broken(rt, "i", run(1, 0, 3000, 3000, line(0, 5, 5)))?;
+    broken(rt, "i", run(1, 0, 3000, 3000, line(5, 5, 5)))?;
+    broken(rt, "i", run(1, 0, 3000, 3000, line(2, 16, 5)))?;
+    broken(rt, "i", run(1, 0, 3000, 3000, line(2, 5, 96)))?;
+    kept(rt, "i", run(1, 0, 3000, 3000, line(1, 0, 1)))?;
+    kept(rt, "i", run(1, 0, 3000, 3000, line(4, 15, 95)))?;
+    broken(rt, "j", run(1, 0, 3000, 3000, line(1, 0, 0)))?;
+    kept(rt, "j", run(1, 0, 3000, 3000, line(2, 0, 0)))
 }
 
 // (k): the line before went out when its frame was due; the due moment does not wrap.
-fn line_before() {
+fn line_before(rt: &impl Print) -> io::Result<()> {
     let end = u64::MAX;
-    broken(b"k", run(1, 0, 29, 100, line(1, 1, 1)));
-    broken(b"k", run(1, 0, 29, 100, line(1, 2, 0)));
-    broken(b"k", run(1, 6, 5, 100, line(1, 0, 1)));
-    broken(b"k", run(1, end - 29, end, end, line(1, 1, 1)));
-    kept(b"k", run(1, 0, 30, 100, line(1, 1, 1)));
-    kept(b"k", run(1, 0, 30, 30, line(1, 2, 0)));
-    kept(b"k", run(1, end - 30, end, end, line(1, 1, 1)));
+    broken(rt, "k", run(1, 0, 29, 100, line(1, 1, 1)))?;
+    broken(rt, "k", run(1, 0, 29, 100, line(1, 2, 0)))?;
+    broken(rt, "k", run(1, 6, 5, 100, line(1, 0, 1)))?;
+    broken(rt, "k", run(1, end - 29, end, end, line(1, 1, 1)))?;
+    kept(rt, "k", run(1, 0, 30, 100, line(1, 1, 1)))?;
+    kept(rt, "k", run(1, 0, 30, 30, line(1, 2, 0)))?;
+    kept(rt, "k", run(1, end - 30, end, end, line(1, 1, 1)))
 }
 
 // (l) and (m), after the lines.
-fn after_lines() {
+fn after_lines(rt: &impl Print) -> io::Result<()> {
     let end = u64::MAX;
-    broken(b"l", run(1, 0, 3000, 3000, Position::Stop(3)));
-    broken(b"l", run(1, 0, 3000, 3000, Position::Stop(2)));
-    kept(b"l", run(1, 0, 3000, 3000, Position::Stop(1)));
-    broken(b"m", run(1, 0, 1889, 3000, Position::Stop(0)));
-    broken(b"m", run(1, 0, 1919, 3000, Position::Stop(1)));
-    broken(b"m", run(1, end - 1919, end, end, Position::Stop(1)));
-    kept(b"m", run(1, 0, 1890, 1890, Position::Stop(0)));
-    kept(b"m", run(1, 0, 1890, 1920, Position::Stop(0)));
-    kept(b"m", run(1, 0, 1920, 1935, Position::Stop(1)));
+    broken(rt, "l", run(1, 0, 3000, 3000, Position::Stop(3)))?;
+    broken(rt, "l", run(1, 0, 3000, 3000, Position::Stop(2)))?;
+    kept(rt, "l", run(1, 0, 3000, 3000, Position::Stop(1)))?;
+    broken(rt, "m", run(1, 0, 1889, 3000, Position::Stop(0)))?;
+    broken(rt, "m", run(1, 0, 1919, 3000, Position::Stop(1)))?;
+    broken(rt, "m", run(1, end - 1919, end, end, Position::Stop(1)))?;
+    kept(rt, "m", run(1, 0, 1890, 1890, Position::Stop(0)))?;
+    kept(rt, "m", run(1, 0, 1890, 1920, Position::Stop(0)))?;
+    kept(rt, "m", run(1, 0, 1920, 1935, Position::Stop(1)))
 }
 
-pub fn examples() {
+pub fn examples(rt: &impl Print) -> io::Result<()> {
     let state = opened();
-    last_moment(state);
-    long_steps(state);
-    late_first(state);
-    last_first(state);
-    store(state);
-    anywhere();
-    before_lines();
-    among_lines();
-    line_before();
-    after_lines();
-    ask(b"the empty state: ", board::empty_state(), 0);
+    last_moment(rt, state)?;
+    long_steps(rt, state)?;
+    late_first(rt, state)?;
+    last_first(rt, state)?;
+    store(rt, state)?;
+    anywhere(rt)?;
+    before_lines(rt)?;
+    among_lines(rt)?;
+    line_before(rt)?;
+    after_lines(rt)?;
+    ask(rt, "the empty state: ", board::empty_state(), 0)?;
+    Ok(())
 }

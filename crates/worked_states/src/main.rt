@@ -5,8 +5,10 @@ mod fills;
 mod made;
 mod summaries;
 
-fn main() {
-    made::examples();
-    fills::examples();
-    summaries::examples();
+use std::io;
+
+fn main(rt: HostRuntime) -> io::Result<()> {
+    made::examples(&rt)?;
+    fills::examples(&rt)?;
+    summaries::examples(&rt)
 }

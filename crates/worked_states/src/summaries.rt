@@ -2,6 +2,7 @@
 // A store with no run refuses a poll with 9 where it keeps them. It has slots 0 and 1, of 128 x 96 dots.
 use crate::made;
 use board::State;
+use std::io;
 use store::Store;
 use summary::{Span, Summary};
 
@@ -27,12 +28,12 @@ fn with_summary(state: State, slot: usize, summary: Summary) -> State {
 }
 
 // Polls a store with no run and a made-up summary of a slot: one that breaks a condition, and one that just keeps it.
-fn broken(letter: &[u8], slot: usize, summary: Summary) {
-    made::breaks(letter, with_summary(made::opened(), slot, summary));
+fn broken(rt: &impl Print, letter: &str, slot: usize, summary: Summary) -> io::Result<()> {
+    made::breaks(rt, letter, with_summary(made::opened(), slot, summary))
 }
 
-fn kept(letter: &[u8], slot: usize, summary: Summary) {
-    made::keeps(letter, with_summary(made::opened(), slot, summary));
+fn kept(rt: &impl Print, letter: &str, slot: usize, summary: Summary) -> io::Result<()> {
+    made::keeps(rt, letter, with_summary(made::opened(), slot, summary))
 }
 
 // ---- made-up summaries
@@ -54,45 +55,45 @@ fn rows(black: u32, first: u32, last: u32) -> Summary {
 // ---- the conditions
 
 // (t), on the number of black dots: there are 12,288. Slot 2 is none of this store's.
-fn count() {
-    broken(b"t", 1, rows(12289, 0, 95));
-    broken(b"t", 0, rows(12289, 0, 95));
-    broken(b"t", 1, rows(4294967295, 0, 95));
-    kept(b"t", 1, rows(12288, 0, 95));
-    kept(b"t", 0, rows(12288, 0, 95));
-    kept(b"t", 2, rows(12289, 0, 95));
+fn count(rt: &impl Print) -> io::Result<()> {
+    broken(rt, "t", 1, rows(12289, 0, 95))?;
+    broken(rt, "t", 0, rows(12289, 0, 95))?;
+    broken(rt, "t", 1, rows(4294967295, 0, 95))?;
+    kept(rt, "t", 1, rows(12288, 0, 95))?;
+    kept(rt, "t", 0, rows(12288, 0, 95))?;
+    kept(rt, "t", 2, rows(12289, 0, 95))
 }
 
 // (u), on which row is first.
-fn order() {
-    broken(b"u", 1, rows(5, 11, 10));
-    broken(b"u", 0, rows(5, 95, 0));
-    broken(b"u", 1, rows(5, 4294967295, 95));
-    kept(b"u", 1, rows(5, 10, 10));
-    kept(b"u", 0, rows(5, 0, 95));
+fn order(rt: &impl Print) -> io::Result<()> {
+    broken(rt, "u", 1, rows(5, 11, 10))?;
+    broken(rt, "u", 0, rows(5, 95, 0))?;
+    broken(rt, "u", 1, rows(5, 4294967295, 95))?;
+    kept(rt, "u", 1, rows(5, 10, 10))?;
+    kept(rt, "u", 0, rows(5, 0, 95))
 }
 
 // (v), on the last row: the rows are 0 to 95.
-fn last_row() {
-    broken(b"v", 1, rows(5, 0, 96));
-    broken(b"v", 0, rows(5, 96, 96));
-    broken(b"v", 1, rows(5, 0, 4294967295));
-    kept(b"v", 1, rows(5, 95, 95));
+fn last_row(rt: &impl Print) -> io::Result<()> {
+    broken(rt, "v", 1, rows(5, 0, 96))?;
+    broken(rt, "v", 0, rows(5, 96, 96))?;
+    broken(rt, "v", 1, rows(5, 0, 4294967295))?;
+    kept(rt, "v", 1, rows(5, 95, 95))
 }
 
 // (w) and (x), on whether rows are given.
-fn given() {
-    broken(b"w", 1, rows(0, 0, 0));
-    broken(b"w", 0, rows(0, 10, 11));
-    kept(b"w", 1, rows(1, 0, 0));
-    broken(b"x", 1, blank(1));
-    broken(b"x", 0, blank(12288));
-    kept(b"x", 1, blank(0));
+fn given(rt: &impl Print) -> io::Result<()> {
+    broken(rt, "w", 1, rows(0, 0, 0))?;
+    broken(rt, "w", 0, rows(0, 10, 11))?;
+    kept(rt, "w", 1, rows(1, 0, 0))?;
+    broken(rt, "x", 1, blank(1))?;
+    broken(rt, "x", 0, blank(12288))?;
+    kept(rt, "x", 1, blank(0))
 }
 
-pub fn examples() {
-    count();
-    order();
-    last_row();
-    given();
+pub fn examples(rt: &impl Print) -> io::Result<()> {
+    count(rt)?;
+    order(rt)?;
+    last_row(rt)?;
+    given(rt)
 }

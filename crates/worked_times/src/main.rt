@@ -5,6 +5,7 @@
 use board::State;
 use poll::Answer;
 use run::Tick;
+use std::io;
 use worked::{rooms, tell};
 
 // The example file of document 01: panel 1.44", two start writes, one stop wait of 15 ms.
@@ -75,76 +76,97 @@ fn polls(state: State, kind: u8, n: u32, tick: u32, memory: &mut [u8], out: &mut
 
 // Polls for n lines at a tick and prints how many came.
 fn tell_lines(
-    words: &[u8],
+    rt: &impl Print,
+    words: &str,
     state: State,
     n: u32,
     tick: u32,
     memory: &mut [u8],
     out: &mut [u8],
-) -> State {
+) -> io::Result<State> {
     let batch = polls(state, LINE, n, tick, memory, out);
-    tell::count(words, batch.count as u64);
-    batch.state
+    tell::count(rt, words, batch.count as u64)?;
+    Ok(batch.state)
 }
 
 // A run whose two start writes are out.
-fn behind_writes(memory: &mut [u8], out: &mut [u8]) -> State {
+fn behind_writes(rt: &impl Print, memory: &mut [u8], out: &mut [u8]) -> io::Result<State> {
     let state = started(memory);
     let batch = polls(state, WRITE, 2, FIRST, memory, out);
-    tell::count(b"writes at F: ", batch.count as u64);
-    batch.state
+    tell::count(rt, "writes at F: ", batch.count as u64)?;
+    Ok(batch.state)
 }
 
 // A run whose first n lines went at F.
-fn behind_first(n: u32, memory: &mut [u8], out: &mut [u8]) -> State {
-    let state = behind_writes(memory, out);
-    tell_lines(b"lines at F: ", state, n, FIRST, memory, out)
+fn behind_first(rt: &impl Print, n: u32, memory: &mut [u8], out: &mut [u8]) -> io::Result<State> {
+    let state = behind_writes(rt, memory, out)?;
+    tell_lines(rt, "lines at F: ", state, n, FIRST, memory, out)
 }
 
 // Polls before a frame is due, and when it is.
 fn poll_twice(
+    rt: &impl Print,
     state: State,
-    before: &[u8],
+    before: &str,
     early: u32,
-    then: &[u8],
+    then: &str,
     due: u32,
     memory: &mut [u8],
     out: &mut [u8],
-) {
-    let waiting = tell::poll(before, state, early, memory, out);
-    tell::poll(then, waiting, due, memory, out);
+) -> io::Result<()> {
+    let waiting = tell::poll(rt, before, state, early, memory, out)?;
+    tell::poll(rt, then, waiting, due, memory, out)?;
+    Ok(())
 }
 
 // With frame 0 out at F, a poll at 10 answers wait 14, and frame 1 begins at 24.
-fn poll_frame_1(memory: &mut [u8], out: &mut [u8]) {
-    let state = behind_first(FRAME, memory, out);
-    poll_twice(state, b"poll at 10: ", 10, b"poll at 24: ", 24, memory, out);
+fn poll_frame_1(rt: &impl Print, memory: &mut [u8], out: &mut [u8]) -> io::Result<()> {
+    let state = behind_first(rt, FRAME, memory, out)?;
+    poll_twice(
+        rt,
+        state,
+        "poll at 10: ",
+        10,
+        "poll at 24: ",
+        24,
+        memory,
+        out,
+    )
 }
 
 // A run whose frame 0 has its last line at 40.
-fn late_frame_0(memory: &mut [u8], out: &mut [u8]) -> State {
-    let state = behind_first(FRAME - 1, memory, out);
-    tell::poll(b"frame 0's last line, at 40: ", state, 40, memory, out)
+fn late_frame_0(rt: &impl Print, memory: &mut [u8], out: &mut [u8]) -> io::Result<State> {
+    let state = behind_first(rt, FRAME - 1, memory, out)?;
+    tell::poll(rt, "frame 0's last line, at 40: ", state, 40, memory, out)
 }
 
 // After it frame 1 goes at once.
-fn late_frame_1(memory: &mut [u8], out: &mut [u8]) -> State {
-    let state = late_frame_0(memory, out);
-    tell_lines(b"lines of frame 1, at 40: ", state, FRAME, 40, memory, out)
+fn late_frame_1(rt: &impl Print, memory: &mut [u8], out: &mut [u8]) -> io::Result<State> {
+    let state = late_frame_0(rt, memory, out)?;
+    tell_lines(
+        rt,
+        "lines of frame 1, at 40: ",
+        state,
+        FRAME,
+        40,
+        memory,
+        out,
+    )
 }
 
 // After that frame 2 goes from 54, not 70.
-fn poll_frame_2(memory: &mut [u8], out: &mut [u8]) {
-    let state = late_frame_1(memory, out);
+fn poll_frame_2(rt: &impl Print, memory: &mut [u8], out: &mut [u8]) -> io::Result<()> {
+    let state = late_frame_1(rt, memory, out)?;
     poll_twice(
+        rt,
         state,
-        b"frame 2, at 53: ",
+        "frame 2, at 53: ",
         53,
-        b"frame 2, at 54: ",
+        "frame 2, at 54: ",
         54,
         memory,
         out,
-    );
+    )
 }
 
 // ---- whole runs
@@ -231,46 +253,47 @@ fn held_back(drive: Drive, hold: u32) -> Drive {
 }
 
 // Hands out the last line and goes on to done.
-fn finish(drive: Drive, memory: &mut [u8], out: &mut [u8]) {
+fn finish(rt: &impl Print, drive: Drive, memory: &mut [u8], out: &mut [u8]) -> io::Result<()> {
     let full = go(drive, ALL, memory, out);
-    tell::count(b"lines: ", full.lines as u64);
-    tell::count(b"last line at F + ", since_first(full));
+    tell::count(rt, "lines: ", full.lines as u64)?;
+    tell::count(rt, "last line at F + ", since_first(full))?;
     let over = go(full, ALL + 1, memory, out);
     if over.done {
-        tell::count(b"done at F + ", since_first(over));
+        tell::count(rt, "done at F + ", since_first(over))?;
     }
+    Ok(())
 }
 
 // A whole run whose last line is held back until F + `hold`, and goes as soon as it is due where `hold` is 0.
-fn run_out(hold: u32, memory: &mut [u8], out: &mut [u8]) {
+fn run_out(rt: &impl Print, hold: u32, memory: &mut [u8], out: &mut [u8]) -> io::Result<()> {
     let drive = before_last(memory, out);
-    finish(held_back(drive, hold), memory, out);
+    finish(rt, held_back(drive, hold), memory, out)
 }
 
 // ---- each example on a store of its own
 
-fn on_time() {
+fn on_time(rt: &impl Print) -> io::Result<()> {
     let mut memory = rooms::memory();
     let mut out = rooms::output();
-    poll_frame_1(&mut memory, &mut out);
+    poll_frame_1(rt, &mut memory, &mut out)
 }
 
-fn late() {
+fn late(rt: &impl Print) -> io::Result<()> {
     let mut memory = rooms::memory();
     let mut out = rooms::output();
-    poll_frame_2(&mut memory, &mut out);
+    poll_frame_2(rt, &mut memory, &mut out)
 }
 
-fn ending(hold: u32) {
+fn ending(rt: &impl Print, hold: u32) -> io::Result<()> {
     let mut memory = rooms::memory();
     let mut out = rooms::output();
-    run_out(hold, &mut memory, &mut out);
+    run_out(rt, hold, &mut memory, &mut out)
 }
 
-fn main() {
-    on_time();
-    late();
-    ending(0);
-    ending(1920);
-    ending(2000);
+fn main(rt: HostRuntime) -> io::Result<()> {
+    on_time(&rt)?;
+    late(&rt)?;
+    ending(&rt, 0)?;
+    ending(&rt, 1920)?;
+    ending(&rt, 2000)
 }
