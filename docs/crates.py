@@ -16,7 +16,7 @@ def read(listed=LISTED):
         for line in file:
             name, colon, below = line.split("#")[0].partition(":")
             if colon:
-                stands[name.strip()] = [crate for crate in below.split() if crate not in KIT]
+                stands[name.split()[0]] = [crate for crate in below.split() if crate not in KIT]
     return stands
 
 
