@@ -4,17 +4,18 @@ use poll::Answer;
 use run::Tick;
 use std::io;
 
-pub fn text(rt: &impl Print, words: &str) -> io::Result<()> {
-    print!(rt; "{words}")
+pub fn text(rt: &impl Print, bytes: &[u8]) -> io::Result<()> {
+    rt.write_all(bytes)
 }
 
 // A word and a number.
-pub fn number(rt: &impl Print, word: &str, n: u64) -> io::Result<()> {
-    print!(rt; "{word}{n}")
+pub fn number(rt: &impl Print, word: &[u8], n: u64) -> io::Result<()> {
+    text(rt, word)?;
+    print!(rt; "{n}")
 }
 
 // A word, a number, and the end of the line.
-pub fn count(rt: &impl Print, word: &str, n: u64) -> io::Result<()> {
+pub fn count(rt: &impl Print, word: &[u8], n: u64) -> io::Result<()> {
     number(rt, word, n)?;
     println!(rt)
 }
@@ -33,7 +34,7 @@ pub fn answer(rt: &impl Print, answer: Answer) -> io::Result<()> {
 // Polls at a tick, prints the words and the answer, and gives back the next state.
 pub fn poll(
     rt: &impl Print,
-    words: &str,
+    words: &[u8],
     state: State,
     tick: u32,
     memory: &mut [u8],

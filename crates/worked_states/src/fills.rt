@@ -25,11 +25,11 @@ fn with_fill(state: State, fill: Fill) -> State {
 }
 
 // Polls a store with no run and a made-up fill: one that breaks a condition, and one that just keeps it.
-fn broken(rt: &impl Print, letter: &str, fill: Fill) -> io::Result<()> {
+fn broken(rt: &impl Print, letter: &[u8], fill: Fill) -> io::Result<()> {
     made::breaks(rt, letter, with_fill(made::opened(), fill))
 }
 
-fn kept(rt: &impl Print, letter: &str, fill: Fill) -> io::Result<()> {
+fn kept(rt: &impl Print, letter: &[u8], fill: Fill) -> io::Result<()> {
     made::keeps(rt, letter, with_fill(made::opened(), fill))
 }
 
@@ -121,76 +121,80 @@ fn with_no_slot(fill: Fill) -> Fill {
 
 // (n) and (o), on the slot. With n = 2 the memory is too short, which is 1.
 fn slot(rt: &impl Print) -> io::Result<()> {
-    broken(rt, "n", fill::begun(2))?;
-    broken(rt, "n", fill::begun(4294967295))?;
-    kept(rt, "n", fill::begun(1))?;
+    broken(rt, b"n", fill::begun(2))?;
+    broken(rt, b"n", fill::begun(4294967295))?;
+    kept(rt, b"n", fill::begun(1))?;
     made::keeps(
         rt,
-        "n",
+        b"n",
         with_fill(made::with_slots(made::opened(), 2), fill::begun(2)),
     )?;
     let run = made::run(1, 0, 5, 5, made::line(1, 0, 1));
     let running = made::with_run(made::opened(), run);
-    made::breaks(rt, "o", with_fill(running, fill::begun(1)))?;
-    made::keeps(rt, "o", running)?;
+    made::breaks(rt, b"o", with_fill(running, fill::begun(1)))?;
+    made::keeps(rt, b"o", running)?;
     made::keeps(
         rt,
-        "o",
+        b"o",
         with_fill(made::with_slots(running, 2), fill::begun(2)),
     )
 }
 
 // (p), on how many bytes came: a file has 1,598.
 fn count(rt: &impl Print) -> io::Result<()> {
-    broken(rt, "p", late(1599, none()))?;
-    broken(rt, "p", late(usize::MAX, none()))?;
-    kept(rt, "p", late(1598, none()))
+    broken(rt, b"p", late(1599, none()))?;
+    broken(rt, b"p", late(usize::MAX, none()))?;
+    kept(rt, b"p", late(1598, none()))
 }
 
 // (q) before the header is whole, the bytes that came: at 35 the second byte of 1,536 or of 0, at 38 anything, at 46 the first byte of 0
 // or of 2, at 60 the last byte of white.
 fn begun_header(rt: &impl Print) -> io::Result<()> {
-    broken(rt, "q", early(1, with_byte(none(), 0, 0x43)))?;
-    broken(rt, "q", early(61, with_byte(header(), 35, 1)))?;
-    broken(rt, "q", early(61, with_byte(header(), 46, 1)))?;
-    broken(rt, "q", early(61, with_byte(header(), 60, 0xFE)))?;
-    kept(rt, "q", early(2, magic()))?;
-    kept(rt, "q", early(61, header()))?;
-    kept(rt, "q", early(61, with_byte(header(), 35, 0)))?;
-    kept(rt, "q", early(61, with_byte(header(), 38, 1)))?;
-    kept(rt, "q", early(61, with_byte(header(), 46, 2)))
+    broken(rt, b"q", early(1, with_byte(none(), 0, 0x43)))?;
+    broken(rt, b"q", early(61, with_byte(header(), 35, 1)))?;
+    broken(rt, b"q", early(61, with_byte(header(), 46, 1)))?;
+    broken(rt, b"q", early(61, with_byte(header(), 60, 0xFE)))?;
+    kept(rt, b"q", early(2, magic()))?;
+    kept(rt, b"q", early(61, header()))?;
+    kept(rt, b"q", early(61, with_byte(header(), 35, 0)))?;
+    kept(rt, b"q", early(61, with_byte(header(), 38, 1)))?;
+    kept(rt, b"q", early(61, with_byte(header(), 46, 2)))
 }
 
 // (q), the palette: not known before the header is whole, and good then.
 fn palette(rt: &impl Print) -> io::Result<()> {
-    broken(rt, "q", with_palette(fill::empty(), Palette::BlackFirst))?;
-    broken(rt, "q", with_palette(fill::begun(1), Palette::WhiteFirst))?;
-    broken(rt, "q", late(2, magic()))?;
-    broken(rt, "q", early(62, none()))?;
-    broken(rt, "q", early(1598, none()))?;
-    kept(rt, "q", late(62, none()))?;
-    kept(rt, "q", with_palette(late(62, none()), Palette::WhiteFirst))
+    broken(rt, b"q", with_palette(fill::empty(), Palette::BlackFirst))?;
+    broken(rt, b"q", with_palette(fill::begun(1), Palette::WhiteFirst))?;
+    broken(rt, b"q", late(2, magic()))?;
+    broken(rt, b"q", early(62, none()))?;
+    broken(rt, b"q", early(1598, none()))?;
+    kept(rt, b"q", late(62, none()))?;
+    kept(
+        rt,
+        b"q",
+        with_palette(late(62, none()), Palette::WhiteFirst),
+    )
 }
 
 // (r): after what came of the header, and of a row of 16 bytes, there is 0.
 fn unused(rt: &impl Print) -> io::Result<()> {
-    broken(rt, "r", with_no_slot(early(0, with_byte(none(), 61, 1))))?;
-    broken(rt, "r", early(0, magic()))?;
-    broken(rt, "r", early(1, magic()))?;
-    broken(rt, "r", late(62, with_byte(none(), 0, 1)))?;
-    broken(rt, "r", late(77, with_byte(none(), 15, 1)))?;
-    broken(rt, "r", late(78, with_byte(none(), 0, 1)))?;
-    broken(rt, "r", late(1598, with_byte(none(), 61, 1)))?;
-    kept(rt, "r", late(63, with_byte(none(), 0, 1)))?;
-    kept(rt, "r", late(77, with_byte(none(), 14, 1)))?;
-    kept(rt, "r", late(78, none()))
+    broken(rt, b"r", with_no_slot(early(0, with_byte(none(), 61, 1))))?;
+    broken(rt, b"r", early(0, magic()))?;
+    broken(rt, b"r", early(1, magic()))?;
+    broken(rt, b"r", late(62, with_byte(none(), 0, 1)))?;
+    broken(rt, b"r", late(77, with_byte(none(), 15, 1)))?;
+    broken(rt, b"r", late(78, with_byte(none(), 0, 1)))?;
+    broken(rt, b"r", late(1598, with_byte(none(), 61, 1)))?;
+    kept(rt, b"r", late(63, with_byte(none(), 0, 1)))?;
+    kept(rt, b"r", late(77, with_byte(none(), 14, 1)))?;
+    kept(rt, b"r", late(78, none()))
 }
 
 // (s), with no slot.
 fn no_slot(rt: &impl Print) -> io::Result<()> {
-    broken(rt, "s", with_no_slot(early(2, magic())))?;
-    broken(rt, "s", with_no_slot(late(62, none())))?;
-    kept(rt, "s", fill::empty())
+    broken(rt, b"s", with_no_slot(early(2, magic())))?;
+    broken(rt, b"s", with_no_slot(late(62, none())))?;
+    kept(rt, b"s", fill::empty())
 }
 
 pub fn examples(rt: &impl Print) -> io::Result<()> {

@@ -89,31 +89,33 @@ fn with_bad_panel(state: State) -> State {
 }
 
 // Polls a made-up state, on a memory and an output of the poll's own, and prints the answer.
-fn ask(rt: &impl Print, words: &str, state: State, tick: u32) -> io::Result<State> {
+fn ask(rt: &impl Print, words: &[u8], state: State, tick: u32) -> io::Result<State> {
     let mut memory = rooms::memory();
     let mut out = rooms::output();
     tell::poll(rt, words, state, tick, &mut memory, &mut out)
 }
 
 // The same at tick 0 of a state that breaks a condition, and of one that just keeps it.
-pub fn breaks(rt: &impl Print, letter: &str, state: State) -> io::Result<()> {
-    print!(rt; "condition {letter}")?;
-    ask(rt, ": ", state, 0)?;
+pub fn breaks(rt: &impl Print, letter: &[u8], state: State) -> io::Result<()> {
+    tell::text(rt, b"condition ")?;
+    tell::text(rt, letter)?;
+    ask(rt, b": ", state, 0)?;
     Ok(())
 }
 
-pub fn keeps(rt: &impl Print, letter: &str, state: State) -> io::Result<()> {
-    print!(rt; "kept {letter}")?;
-    ask(rt, ": ", state, 0)?;
+pub fn keeps(rt: &impl Print, letter: &[u8], state: State) -> io::Result<()> {
+    tell::text(rt, b"kept ")?;
+    tell::text(rt, letter)?;
+    ask(rt, b": ", state, 0)?;
     Ok(())
 }
 
 // The same of a made-up run, at its last tick.
-fn broken(rt: &impl Print, letter: &str, run: Run) -> io::Result<()> {
+fn broken(rt: &impl Print, letter: &[u8], run: Run) -> io::Result<()> {
     breaks(rt, letter, with_run(opened(), run))
 }
 
-fn kept(rt: &impl Print, letter: &str, run: Run) -> io::Result<()> {
+fn kept(rt: &impl Print, letter: &[u8], run: Run) -> io::Result<()> {
     keeps(rt, letter, with_run(opened(), run))
 }
 
@@ -129,7 +131,7 @@ pub fn opened() -> State {
 fn abandon(rt: &impl Print, state: State) -> io::Result<()> {
     let memory = rooms::memory();
     let reply = state.abandon(&memory);
-    tell::count(rt, "abandon: ", reply.number as u64)
+    tell::count(rt, b"abandon: ", reply.number as u64)
 }
 
 // ---- the end of passed time
@@ -137,16 +139,16 @@ fn abandon(rt: &impl Print, state: State) -> io::Result<()> {
 // Passed time 2^64 - 1: a step of 0 is taken, a step of 1 earns 10, and the run can still be abandoned.
 fn last_moment(rt: &impl Print, state: State) -> io::Result<()> {
     let full = with_run(state, run(1, 0, 0, u64::MAX, line(1, 0, 50)));
-    let after = ask(rt, "passed 2^64 - 1, step 0: ", full, 0)?;
-    let refused = ask(rt, "passed 2^64 - 1, step 1: ", after, 1)?;
+    let after = ask(rt, b"passed 2^64 - 1, step 0: ", full, 0)?;
+    let refused = ask(rt, b"passed 2^64 - 1, step 1: ", after, 1)?;
     abandon(rt, refused)
 }
 
 // The longest step, and one that is no step forward.
 fn long_steps(rt: &impl Print, state: State) -> io::Result<()> {
     let made = with_run(state, run(1, 0, 0, 0, line(1, 0, 50)));
-    ask(rt, "step 2147483647: ", made, 2147483647)?;
-    ask(rt, "step 2147483648: ", made, 2147483648)?;
+    ask(rt, b"step 2147483647: ", made, 2147483647)?;
+    ask(rt, b"step 2147483648: ", made, 2147483648)?;
     Ok(())
 }
 
@@ -154,11 +156,11 @@ fn long_steps(rt: &impl Print, state: State) -> io::Result<()> {
 fn late_first(rt: &impl Print, state: State) -> io::Result<()> {
     let f = u64::MAX - 40;
     let made = with_run(state, run(1, f, f, f, line(1, 1, 0)));
-    ask(rt, "F at 2^64 - 41, step 0: ", made, 0)?;
-    ask(rt, "F at 2^64 - 41, step 29: ", made, 29)?;
-    ask(rt, "F at 2^64 - 41, step 30: ", made, 30)?;
-    ask(rt, "F at 2^64 - 41, step 40: ", made, 40)?;
-    ask(rt, "F at 2^64 - 41, step 41: ", made, 41)?;
+    ask(rt, b"F at 2^64 - 41, step 0: ", made, 0)?;
+    ask(rt, b"F at 2^64 - 41, step 29: ", made, 29)?;
+    ask(rt, b"F at 2^64 - 41, step 30: ", made, 30)?;
+    ask(rt, b"F at 2^64 - 41, step 40: ", made, 40)?;
+    ask(rt, b"F at 2^64 - 41, step 41: ", made, 41)?;
     Ok(())
 }
 
@@ -166,11 +168,11 @@ fn late_first(rt: &impl Print, state: State) -> io::Result<()> {
 fn last_first(rt: &impl Print, state: State) -> io::Result<()> {
     let end = u64::MAX;
     let made = with_run(state, run(1, end, end, end, line(1, 1, 0)));
-    ask(rt, "F at 2^64 - 1, step 0: ", made, 0)?;
-    ask(rt, "F at 2^64 - 1, step 1: ", made, 1)?;
+    ask(rt, b"F at 2^64 - 1, step 0: ", made, 0)?;
+    ask(rt, b"F at 2^64 - 1, step 1: ", made, 1)?;
     let stop = with_run(state, run(1, end - 1890, end, end, Position::Stop(0)));
-    ask(rt, "last line at 2^64 - 1, step 0: ", stop, 0)?;
-    ask(rt, "last line at 2^64 - 1, step 1: ", stop, 1)?;
+    ask(rt, b"last line at 2^64 - 1, step 0: ", stop, 0)?;
+    ask(rt, b"last line at 2^64 - 1, step 1: ", stop, 1)?;
     Ok(())
 }
 
@@ -178,75 +180,75 @@ fn last_first(rt: &impl Print, state: State) -> io::Result<()> {
 
 // (a) and (b), of a store with no run, which is refused by 9 where it keeps them. With n = 7 the memory is too short, which is 1.
 fn store(rt: &impl Print, state: State) -> io::Result<()> {
-    breaks(rt, "a", with_len(state, 638))?;
-    breaks(rt, "a", with_len(state, 25))?;
-    breaks(rt, "a", with_len(state, 27))?;
-    breaks(rt, "a", with_bad_panel(state))?;
-    keeps(rt, "a", with_len(state, 26))?;
-    breaks(rt, "b", with_slots(state, 0))?;
-    breaks(rt, "b", with_slots(state, 8))?;
-    keeps(rt, "b", with_slots(state, 1))?;
-    keeps(rt, "b", with_slots(state, 7))
+    breaks(rt, b"a", with_len(state, 638))?;
+    breaks(rt, b"a", with_len(state, 25))?;
+    breaks(rt, b"a", with_len(state, 27))?;
+    breaks(rt, b"a", with_bad_panel(state))?;
+    keeps(rt, b"a", with_len(state, 26))?;
+    breaks(rt, b"b", with_slots(state, 0))?;
+    breaks(rt, b"b", with_slots(state, 8))?;
+    keeps(rt, b"b", with_slots(state, 1))?;
+    keeps(rt, b"b", with_slots(state, 7))
 }
 
 // (c) and (d), of a run anywhere.
 fn anywhere(rt: &impl Print) -> io::Result<()> {
-    broken(rt, "c", run(0, 0, 5, 5, line(1, 0, 1)))?;
-    broken(rt, "c", run(2, 0, 5, 5, line(1, 0, 1)))?;
-    kept(rt, "c", run(1, 0, 5, 5, line(1, 0, 1)))?;
-    broken(rt, "d", run(1, 0, 6, 5, line(1, 0, 1)))?;
-    kept(rt, "d", run(1, 0, 5, 6, line(1, 0, 1)))
+    broken(rt, b"c", run(0, 0, 5, 5, line(1, 0, 1)))?;
+    broken(rt, b"c", run(2, 0, 5, 5, line(1, 0, 1)))?;
+    kept(rt, b"c", run(1, 0, 5, 5, line(1, 0, 1)))?;
+    broken(rt, b"d", run(1, 0, 6, 5, line(1, 0, 1)))?;
+    kept(rt, b"d", run(1, 0, 5, 6, line(1, 0, 1)))
 }
 
 // (e) to (h), before the first line.
 fn before_lines(rt: &impl Print) -> io::Result<()> {
-    broken(rt, "e", run(1, 0, 5, 5, Position::Start(4)))?;
-    kept(rt, "e", run(1, 0, 5, 5, Position::Start(3)))?;
-    broken(rt, "f", run(1, 0, 5, 5, Position::Start(1)))?;
-    kept(rt, "f", run(1, 0, 5, 5, Position::Start(2)))?;
-    broken(rt, "g", run(1, 0, 1, 5, Position::Start(0)))?;
-    kept(rt, "g", run(1, 0, 0, 4, Position::Start(0)))?;
-    broken(rt, "h", run(1, 1, 0, 5, Position::Start(0)))?;
-    broken(rt, "h", run(1, 1, 5, 5, Position::Start(2)))?;
-    kept(rt, "h", run(1, 0, 0, 5, Position::Start(0)))
+    broken(rt, b"e", run(1, 0, 5, 5, Position::Start(4)))?;
+    kept(rt, b"e", run(1, 0, 5, 5, Position::Start(3)))?;
+    broken(rt, b"f", run(1, 0, 5, 5, Position::Start(1)))?;
+    kept(rt, b"f", run(1, 0, 5, 5, Position::Start(2)))?;
+    broken(rt, b"g", run(1, 0, 1, 5, Position::Start(0)))?;
+    kept(rt, b"g", run(1, 0, 0, 4, Position::Start(0)))?;
+    broken(rt, b"h", run(1, 1, 0, 5, Position::Start(0)))?;
+    broken(rt, b"h", run(1, 1, 5, 5, Position::Start(2)))?;
+    kept(rt, b"h", run(1, 0, 0, 5, Position::Start(0)))
 }
 
 // (i) and (j), among the lines.
 fn among_lines(rt: &impl Print) -> io::Result<()> {
-    broken(rt, "i", run(1, 0, 3000, 3000, line(0, 5, 5)))?;
-    broken(rt, "i", run(1, 0, 3000, 3000, line(5, 5, 5)))?;
-    broken(rt, "i", run(1, 0, 3000, 3000, line(2, 16, 5)))?;
-    broken(rt, "i", run(1, 0, 3000, 3000, line(2, 5, 96)))?;
-    kept(rt, "i", run(1, 0, 3000, 3000, line(1, 0, 1)))?;
-    kept(rt, "i", run(1, 0, 3000, 3000, line(4, 15, 95)))?;
-    broken(rt, "j", run(1, 0, 3000, 3000, line(1, 0, 0)))?;
-    kept(rt, "j", run(1, 0, 3000, 3000, line(2, 0, 0)))
+    broken(rt, b"i", run(1, 0, 3000, 3000, line(0, 5, 5)))?;
+    broken(rt, b"i", run(1, 0, 3000, 3000, line(5, 5, 5)))?;
+    broken(rt, b"i", run(1, 0, 3000, 3000, line(2, 16, 5)))?;
+    broken(rt, b"i", run(1, 0, 3000, 3000, line(2, 5, 96)))?;
+    kept(rt, b"i", run(1, 0, 3000, 3000, line(1, 0, 1)))?;
+    kept(rt, b"i", run(1, 0, 3000, 3000, line(4, 15, 95)))?;
+    broken(rt, b"j", run(1, 0, 3000, 3000, line(1, 0, 0)))?;
+    kept(rt, b"j", run(1, 0, 3000, 3000, line(2, 0, 0)))
 }
 
 // (k): the line before went out when its frame was due; the due moment does not wrap.
 fn line_before(rt: &impl Print) -> io::Result<()> {
     let end = u64::MAX;
-    broken(rt, "k", run(1, 0, 29, 100, line(1, 1, 1)))?;
-    broken(rt, "k", run(1, 0, 29, 100, line(1, 2, 0)))?;
-    broken(rt, "k", run(1, 6, 5, 100, line(1, 0, 1)))?;
-    broken(rt, "k", run(1, end - 29, end, end, line(1, 1, 1)))?;
-    kept(rt, "k", run(1, 0, 30, 100, line(1, 1, 1)))?;
-    kept(rt, "k", run(1, 0, 30, 30, line(1, 2, 0)))?;
-    kept(rt, "k", run(1, end - 30, end, end, line(1, 1, 1)))
+    broken(rt, b"k", run(1, 0, 29, 100, line(1, 1, 1)))?;
+    broken(rt, b"k", run(1, 0, 29, 100, line(1, 2, 0)))?;
+    broken(rt, b"k", run(1, 6, 5, 100, line(1, 0, 1)))?;
+    broken(rt, b"k", run(1, end - 29, end, end, line(1, 1, 1)))?;
+    kept(rt, b"k", run(1, 0, 30, 100, line(1, 1, 1)))?;
+    kept(rt, b"k", run(1, 0, 30, 30, line(1, 2, 0)))?;
+    kept(rt, b"k", run(1, end - 30, end, end, line(1, 1, 1)))
 }
 
 // (l) and (m), after the lines.
 fn after_lines(rt: &impl Print) -> io::Result<()> {
     let end = u64::MAX;
-    broken(rt, "l", run(1, 0, 3000, 3000, Position::Stop(3)))?;
-    broken(rt, "l", run(1, 0, 3000, 3000, Position::Stop(2)))?;
-    kept(rt, "l", run(1, 0, 3000, 3000, Position::Stop(1)))?;
-    broken(rt, "m", run(1, 0, 1889, 3000, Position::Stop(0)))?;
-    broken(rt, "m", run(1, 0, 1919, 3000, Position::Stop(1)))?;
-    broken(rt, "m", run(1, end - 1919, end, end, Position::Stop(1)))?;
-    kept(rt, "m", run(1, 0, 1890, 1890, Position::Stop(0)))?;
-    kept(rt, "m", run(1, 0, 1890, 1920, Position::Stop(0)))?;
-    kept(rt, "m", run(1, 0, 1920, 1935, Position::Stop(1)))
+    broken(rt, b"l", run(1, 0, 3000, 3000, Position::Stop(3)))?;
+    broken(rt, b"l", run(1, 0, 3000, 3000, Position::Stop(2)))?;
+    kept(rt, b"l", run(1, 0, 3000, 3000, Position::Stop(1)))?;
+    broken(rt, b"m", run(1, 0, 1889, 3000, Position::Stop(0)))?;
+    broken(rt, b"m", run(1, 0, 1919, 3000, Position::Stop(1)))?;
+    broken(rt, b"m", run(1, end - 1919, end, end, Position::Stop(1)))?;
+    kept(rt, b"m", run(1, 0, 1890, 1890, Position::Stop(0)))?;
+    kept(rt, b"m", run(1, 0, 1890, 1920, Position::Stop(0)))?;
+    kept(rt, b"m", run(1, 0, 1920, 1935, Position::Stop(1)))
 }
 
 pub fn examples(rt: &impl Print) -> io::Result<()> {
@@ -261,6 +263,6 @@ pub fn examples(rt: &impl Print) -> io::Result<()> {
     among_lines(rt)?;
     line_before(rt)?;
     after_lines(rt)?;
-    ask(rt, "the empty state: ", board::empty_state(), 0)?;
+    ask(rt, b"the empty state: ", board::empty_state(), 0)?;
     Ok(())
 }

@@ -77,7 +77,7 @@ fn polls(state: State, kind: u8, n: u32, tick: u32, memory: &mut [u8], out: &mut
 // Polls for n lines at a tick and prints how many came.
 fn tell_lines(
     rt: &impl Print,
-    words: &str,
+    words: &[u8],
     state: State,
     n: u32,
     tick: u32,
@@ -93,23 +93,23 @@ fn tell_lines(
 fn behind_writes(rt: &impl Print, memory: &mut [u8], out: &mut [u8]) -> io::Result<State> {
     let state = started(memory);
     let batch = polls(state, WRITE, 2, FIRST, memory, out);
-    tell::count(rt, "writes at F: ", batch.count as u64)?;
+    tell::count(rt, b"writes at F: ", batch.count as u64)?;
     Ok(batch.state)
 }
 
 // A run whose first n lines went at F.
 fn behind_first(rt: &impl Print, n: u32, memory: &mut [u8], out: &mut [u8]) -> io::Result<State> {
     let state = behind_writes(rt, memory, out)?;
-    tell_lines(rt, "lines at F: ", state, n, FIRST, memory, out)
+    tell_lines(rt, b"lines at F: ", state, n, FIRST, memory, out)
 }
 
 // Polls before a frame is due, and when it is.
 fn poll_twice(
     rt: &impl Print,
     state: State,
-    before: &str,
+    before: &[u8],
     early: u32,
-    then: &str,
+    then: &[u8],
     due: u32,
     memory: &mut [u8],
     out: &mut [u8],
@@ -125,9 +125,9 @@ fn poll_frame_1(rt: &impl Print, memory: &mut [u8], out: &mut [u8]) -> io::Resul
     poll_twice(
         rt,
         state,
-        "poll at 10: ",
+        b"poll at 10: ",
         10,
-        "poll at 24: ",
+        b"poll at 24: ",
         24,
         memory,
         out,
@@ -137,7 +137,7 @@ fn poll_frame_1(rt: &impl Print, memory: &mut [u8], out: &mut [u8]) -> io::Resul
 // A run whose frame 0 has its last line at 40.
 fn late_frame_0(rt: &impl Print, memory: &mut [u8], out: &mut [u8]) -> io::Result<State> {
     let state = behind_first(rt, FRAME - 1, memory, out)?;
-    tell::poll(rt, "frame 0's last line, at 40: ", state, 40, memory, out)
+    tell::poll(rt, b"frame 0's last line, at 40: ", state, 40, memory, out)
 }
 
 // After it frame 1 goes at once.
@@ -145,7 +145,7 @@ fn late_frame_1(rt: &impl Print, memory: &mut [u8], out: &mut [u8]) -> io::Resul
     let state = late_frame_0(rt, memory, out)?;
     tell_lines(
         rt,
-        "lines of frame 1, at 40: ",
+        b"lines of frame 1, at 40: ",
         state,
         FRAME,
         40,
@@ -160,9 +160,9 @@ fn poll_frame_2(rt: &impl Print, memory: &mut [u8], out: &mut [u8]) -> io::Resul
     poll_twice(
         rt,
         state,
-        "frame 2, at 53: ",
+        b"frame 2, at 53: ",
         53,
-        "frame 2, at 54: ",
+        b"frame 2, at 54: ",
         54,
         memory,
         out,
@@ -255,11 +255,11 @@ fn held_back(drive: Drive, hold: u32) -> Drive {
 // Hands out the last line and goes on to done.
 fn finish(rt: &impl Print, drive: Drive, memory: &mut [u8], out: &mut [u8]) -> io::Result<()> {
     let full = go(drive, ALL, memory, out);
-    tell::count(rt, "lines: ", full.lines as u64)?;
-    tell::count(rt, "last line at F + ", since_first(full))?;
+    tell::count(rt, b"lines: ", full.lines as u64)?;
+    tell::count(rt, b"last line at F + ", since_first(full))?;
     let over = go(full, ALL + 1, memory, out);
     if over.done {
-        tell::count(rt, "done at F + ", since_first(over))?;
+        tell::count(rt, b"done at F + ", since_first(over))?;
     }
     Ok(())
 }
