@@ -1,21 +1,18 @@
 -- Laws of the check's sizes and answer.
 -- Assumes nothing.
-use mathlib.Core.Path.{◌≡◌, sym}
+use mathlib.Core.Path.{◌≡◌}
 use mathlib.Core.Bool.{Bool, true, false, not}
-use mathlib.Core.List.{List, [], ◌∷◌, map}
+use mathlib.Core.List.{List, [], ◌∷◌}
 use Prim.Native.Nat.{ℕ, ◌+◌, ◌*◌, ◌≤◌}
 use native.Mathlib.Nat.{mul-le-mul}
 use native.Mathlib.Omega.{arith}
 use mir.Val.{Fits}
 use mir.Syntax.{w64}
-use borrow.Author.Tests.{eq-eqb, ne_eqb}
-use lib.Dec.{eqb}
+use borrow.Author.Tests.{ne_eqb}
 use lib.ListN.{length}
-use Rattle.lists.specs.Rules.{every, case, first_of}
-use Rattle.lists.proofs.Rules.{broken}
+use Rattle.lists.specs.Rules.{case, first_of}
 use Rattle.panel.specs.Panels.{is_panel, rows_of, row_bytes_of, stride_of}
-use Rattle.bitmap.specs.Palettes.{palette_of, black_and_white}
-use Rattle.bitmap.specs.Header.{file_length, header_fields, field_good}
+use Rattle.bitmap.specs.Header.{file_length}
 use Rattle.bitmap.specs.Bitmap.{bitmap_good, check_bitmap}
 
 pub rows-small : (h s : ℕ) → h ≤ 176 → s ≤ 36 → h * s ≤ 6336
@@ -28,21 +25,10 @@ rows_fit h s p q = omega (arith, rows-small h s p q)
 pub file_fits : (n h s : ℕ) → n ≤ 100 → h ≤ 176 → s ≤ 36 → Fits w64 (n + h * s)
 file_fits n h s l p q = omega (arith, rows-small h s p q)
 
--- the length decides where it is wrong, then the palette, and else the fields
-module _ (b h s : ℕ) (file : List ℕ) where
-  pub wrong_length : (length file ≡ file_length h s → ⊥) → false ≡ bitmap_good b h s file
-  unfolding bitmap_good
-  wrong_length n = rw (ne_eqb (length file) (file_length h s) n)
-
-  pub wrong_palette : black_and_white (palette_of file) ≡ false → false ≡ bitmap_good b h s file
-  unfolding bitmap_good
-  wrong_palette e =
-      sym (broken 1 (eqb (length file) (file_length h s) ∷ black_and_white (palette_of file) ∷ map (field_good file) (header_fields b h s)) e)
-
-  pub fields_decide : length file ≡ file_length h s → black_and_white (palette_of file) ≡ true
-      → bitmap_good b h s file ≡ every (map (field_good file) (header_fields b h s))
-  unfolding bitmap_good
-  fields_decide e p = rw (eq-eqb (length file) (file_length h s) e, p)
+-- a file of another length is no bitmap
+pub wrong_length : (b h s : ℕ) (file : List ℕ) → (length file ≡ file_length h s → ⊥) → false ≡ bitmap_good b h s file
+unfolding bitmap_good
+wrong_length b h s file n = rw (ne_eqb (length file) (file_length h s) n)
 
 -- where the panel is one, the file decides
 pub check_file : (panel : ℕ) (file : List ℕ) (b h s : ℕ) (t : Bool) → is_panel panel ≡ true
@@ -50,7 +36,3 @@ pub check_file : (panel : ℕ) (file : List ℕ) (b h s : ℕ) (t : Bool) → is
     → check_bitmap panel file ≡ first_of (case (not t) 4 ∷ []) (λ number. number) 0
 unfolding check_bitmap
 check_file panel file b h s t p e f g q = rw (p, q, e, f, g)
-
-pub check_panel : (panel : ℕ) (file : List ℕ) → is_panel panel ≡ false → check_bitmap panel file ≡ 14
-unfolding check_bitmap
-check_panel panel file e = rw e

@@ -2,7 +2,7 @@
 -- Assumes nothing.
 use mathlib.Core.Path.{◌≡◌, refl, sym, ap, ◌∙◌}
 use mathlib.Core.List.{List, [], ◌∷◌, ◌++◌}
-use Prim.Native.Nat.{ℕ, zero, suc, ◌+◌, ◌-◌, ◌*◌, ◌/◌, ◌%◌, ◌^◌, ◌≤◌, ◌<◌}
+use Prim.Native.Nat.{ℕ, zero, suc, ◌+◌, ◌*◌, ◌/◌, ◌%◌, ◌^◌, ◌≤◌, ◌<◌}
 use native.Mathlib.Nat.{pow-suc, pow-succ', pow-le-pow_right, div-div-eq-div-mul}
 use native.Mathlib.Numerals.{add-one}
 use native.Mathlib.Omega.{arith}
@@ -10,17 +10,6 @@ use lib.ListN.{length, get_or, set}
 use Rattle.lists.specs.Lists.{overlay_at}
 use Rattle.lists.proofs.Lists.{overlay_at_more}
 use Rattle.bitmap.specs.Numbers.{number_at, number_bytes}
-
--- ---- a number that is read from its high byte down
-
--- one byte more below those that are read already
-pub number_next : (size left at n v : ℕ) (file : List ℕ) → 0 < left → left ≤ size
-    → n ≡ number_at (size - left) file (at + left) → v ≡ get_or file (at + (left - 1)) 0
-    → v + 256 * n ≡ number_at (size - (left - 1)) file (at + (left - 1))
-number_next size left at n v file pos le e f =
-    let p : size - (left - 1) ≡ suc (size - left) = omega arith in
-    let q : suc (at + (left - 1)) ≡ at + left = omega arith in
-    rw (p, q, e, f)
 
 -- a number of up to four bytes is below 2^32
 module _ (file : List ℕ) (bytes : (k : ℕ) → get_or file k 0 < 256) where

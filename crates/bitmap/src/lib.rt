@@ -1,22 +1,24 @@
-// Bitmap files: the table of their fields, their palettes, and the check. A picture has h rows of b bytes; in a file they are s
-// bytes apart.
+// Bitmap files: the table of their fields, their palettes, and the check.
 #![tactic(auto)]
 
-ghost use Rattle.std.specs.Prelude.{◌≡◌, ℕ, ◌+◌, ◌<◌, ◌≤◌, map, length};
+ghost use Rattle.std.specs.Prelude.{◌≡◌, ℕ, ◌+◌, ◌≤◌, map, length};
 ghost use Rattle.lists.specs.Lists.{overlay_at};
 ghost use Rattle.lists.specs.Rules.{every};
+ghost use Rattle.refusal.specs.Numbers.{number_given};
 ghost use Rattle.bitmap.specs.Numbers.{number_at, number_bytes};
-ghost use Rattle.bitmap.specs.Palettes.{palette_from, palette_of, black_and_white};
+ghost use Rattle.bitmap.specs.Palettes.{palette_from, palette_of};
 ghost use Rattle.bitmap.specs.Header.{file_length, header_fields, field_good};
 ghost use Rattle.bitmap.specs.Table.{number_of, field_of};
 ghost use Rattle.bitmap.specs.Bitmap.{bitmap_good, check_bitmap};
 
-// What the two entries of a palette are: black, then white; white, then black; or any others.
+use panel::{Panel, Shape};
+use refusal::Refusal;
+
+// What the two entries of a palette may be: black, then white; or white, then black.
 #[derive(Clone, Copy)]
 pub enum Palette {
     BlackFirst,
     WhiteFirst,
-    Neither,
 }
 
 // ---- the table of fields
@@ -30,6 +32,7 @@ pub enum Also {
 }
 
 // A field of the header: its index in the file, its bytes, the number that the writer puts there, and what else it may hold.
+// That it lies in the header is no ghost field here: `field_of` and `header_fields` of specs/ make a Field of any entry.
 #[derive(Clone, Copy)]
 pub struct Field {
     pub at: usize,
@@ -42,7 +45,7 @@ pub struct Field {
 // length of these in the file.
 #[derive(Clone, Copy)]
 pub enum Number {
-    Fixed(u32),
+    Fixed(usize),
     FileLength,
     Width,
     Rows,
@@ -51,14 +54,22 @@ pub enum Number {
 
 // An entry of the table: a field for pictures of any size, with its parts in the same order.
 #[derive(Clone, Copy)]
-pub struct Entry(pub u8, pub u8, pub Number, pub Also);
+pub struct Entry(pub usize, pub usize, pub Number, pub Also);
+
+// The bytes before the rows.
+pub const HEADER_LENGTH: usize = 62;
+
+// The two colours, as numbers of three bytes.
+pub const BLACK: usize = 0x000000;
+
+pub const WHITE: usize = 0xFFFFFF;
 
 // The last two are the palette, on whose entries together `palette_of` decides.
 const FIELDS: [Entry; 17] = [
     Entry(0, 2, Number::Fixed(0x4D42), Also::Only),
     Entry(2, 4, Number::FileLength, Also::Only),
     Entry(6, 4, Number::Fixed(0), Also::Only),
-    Entry(10, 4, Number::Fixed(62), Also::Only),
+    Entry(10, 4, Number::Fixed(HEADER_LENGTH), Also::Only),
     Entry(14, 4, Number::Fixed(40), Also::Only),
     Entry(18, 4, Number::Width, Also::Only),
     Entry(22, 4, Number::Rows, Also::Only),
@@ -70,65 +81,68 @@ const FIELDS: [Entry; 17] = [
     Entry(42, 4, Number::Fixed(0), Also::OrAnything),
     Entry(46, 4, Number::Fixed(0), Also::Or(2)),
     Entry(50, 4, Number::Fixed(0), Also::OrAnything),
-    Entry(54, 4, Number::Fixed(0x000000), Also::OrAnything),
-    Entry(58, 4, Number::Fixed(0xFFFFFF), Also::OrAnything),
+    Entry(54, 4, Number::Fixed(BLACK), Also::OrAnything),
+    Entry(58, 4, Number::Fixed(WHITE), Also::OrAnything),
 ];
 
-// The length of a file.
+// The length of a file of h rows that are s bytes apart.
 pub fn file_length(h: usize, s: usize) -> usize
     requires { (h ≤ 176) × (s ≤ 36) }
     ensures { result ≡ file_length h s }
 {
-    62 + h * s
+    HEADER_LENGTH + h * s
 }
 
-fn number_of(b: usize, h: usize, s: usize, number: Number) -> usize
-    requires { (b ≤ 33) × (h ≤ 176) × (s ≤ 36) }
-    ensures { result ≡ number_of b h s number }
+fn number_of(shape: Shape, number: Number) -> usize
+    ensures { result ≡ number_of shape.bytes shape.rows shape.stride number }
 {
     match number {
-        Number::Fixed(n) => n as usize,
-        Number::FileLength => file_length(h, s),
-        Number::Width => 8 * b,
-        Number::Rows => h,
-        Number::RowsLength => h * s,
+        Number::Fixed(n) => n,
+        Number::FileLength => file_length(shape.rows, shape.stride),
+        Number::Width => 8 * shape.bytes,
+        Number::Rows => shape.rows,
+        Number::RowsLength => shape.rows * shape.stride,
     }
 }
 
 // The field that an entry is for a picture.
-pub fn field_of(b: usize, h: usize, s: usize, entry: Entry) -> Field
-    requires { (b ≤ 33) × (h ≤ 176) × (s ≤ 36) }
-    ensures { result ≡ field_of b h s entry }
+pub fn field_of(shape: Shape, entry: Entry) -> Field
+    ensures { result ≡ field_of shape.bytes shape.rows shape.stride entry }
 {
-    let number = entry.2;
-    let also = entry.3;
+    let Entry(at, size, number, also) = entry;
     Field {
-        at: entry.0 as usize,
-        size: entry.1 as usize,
-        number: number_of(b, h, s, number),
+        at,
+        size,
+        number: number_of(shape, number),
         also,
     }
 }
 
-// The table, for a loop over it: where it is indexed it is laid out, so it is asked for once before the loop.
+// The table, whatever the sizes of a picture.
 pub fn table() -> [Entry; 17]
     ensures { (b h s : ℕ) → map (field_of b h s) result ≡ header_fields b h s }
 {
     FIELDS
 }
 
-// ---- numbers, low byte first
+// The fields for a picture, in file order.
+pub fn header_fields(shape: Shape) -> [Field; 17]
+    ensures { result ≡ header_fields shape.bytes shape.rows shape.stride }
+{
+    table().map(|entry| field_of(shape, entry))
+}
 
-// The number of `size` bytes at index `at` of a file, at most four.
+// ---- numbers, low byte first: of two, three or four bytes, where `from_le_bytes` and `to_le_bytes` have one size
+
+// The number of `size` bytes at index `at` of a file, at most four. Both loops are over indexes, as `number_at` and
+// `number_bytes` of specs/ count by them.
 fn number_at(size: usize, file: &[u8], at: usize) -> usize
     requires { (size ≤ 4) × (at + size ≤ length file.now) }
     ensures { result ≡ number_at size file.now at }
 {
     let mut n: usize = 0;
-    let mut left = size;
-    while 0 < left {
-        left -= 1;
-        n = lists::wide(file[at + left]) + 256 * n;
+    for i in (at..at + size).rev() {
+        n = usize::from(file[i]) + 256 * n;
     }
     n
 }
@@ -139,11 +153,9 @@ pub fn put_number(out: &mut [u8], at: usize, size: usize, n: usize)
     ensures { out.new ≡ overlay_at at (number_bytes size n) out.old }
 {
     let mut left = n;
-    let mut i: usize = 0;
-    while i < size {
-        out[at + i] = (left % 256) as u8;
-        left = left / 256;
-        i += 1;
+    for i in at..at + size {
+        out[i] = (left % 256) as u8;
+        left /= 256;
     }
 }
 
@@ -155,93 +167,63 @@ pub fn field_good(file: &[u8], field: Field) -> bool
     ensures { result ≡ field_good file.now field }
 {
     let found = number_at(field.size, file, field.at);
-    if found == field.number {
-        return true;
-    }
-    let also = field.also;
-    match also {
-        Also::Only => false,
-        Also::Or(other) => found == other as usize,
-        Also::OrAnything => true,
-    }
+    found == field.number
+        || match field.also {
+            Also::Only => false,
+            Also::Or(other) => found == usize::from(other),
+            Also::OrAnything => true,
+        }
 }
 
 // Whether every field of the header is good.
-fn header_good(b: usize, h: usize, s: usize, file: &[u8]) -> bool
-    requires { (b ≤ 33) × (h ≤ 176) × (s ≤ 36) × (62 ≤ length file.now) }
-    ensures { result ≡ every (map (field_good file.now) (header_fields b h s)) }
+fn header_good(shape: Shape, file: &[u8]) -> bool
+    requires { 62 ≤ length file.now }
+    ensures { result
+        ≡ every (map (field_good file.now) (header_fields shape.bytes shape.rows shape.stride)) }
 {
-    let fields = table();
-    let mut i: usize = 0;
-    while i < 17 {
-        if !field_good(file, field_of(b, h, s, fields[i])) {
-            return false;
-        }
-        i += 1;
-    }
-    true
+    header_fields(shape)
+        .iter()
+        .all(|&field| field_good(file, field))
 }
-
-const BLACK: usize = 0x000000;
-
-const WHITE: usize = 0xFFFFFF;
 
 // The palette of two colours.
-fn palette_from(first: usize, second: usize) -> Palette
+#[tactic(auto, unfolding(crate::specs::Palettes::palette_from))]
+fn palette_from(first: usize, second: usize) -> Option<Palette>
     ensures { result ≡ palette_from first second }
 {
-    if first == BLACK && second == WHITE {
-        return Palette::BlackFirst;
+    match (first, second) {
+        (BLACK, WHITE) => Some(Palette::BlackFirst),
+        (WHITE, BLACK) => Some(Palette::WhiteFirst),
+        _ => None,
     }
-    if first == WHITE && second == BLACK {
-        return Palette::WhiteFirst;
-    }
-    Palette::Neither
 }
 
-// The palette of a file.
-pub fn palette_of(file: &[u8]) -> Palette
+// The palette of a file; none where it is not black and white.
+pub fn palette_of(file: &[u8]) -> Option<Palette>
     requires { 62 ≤ length file.now }
     ensures { result ≡ palette_of file.now }
 {
     palette_from(number_at(3, file, 54), number_at(3, file, 58))
 }
 
-// Whether a bitmap may have a palette.
-pub fn black_and_white(palette: Palette) -> bool
-    ensures { result ≡ black_and_white palette }
-{
-    match palette {
-        Palette::BlackFirst => true,
-        Palette::WhiteFirst => true,
-        Palette::Neither => false,
-    }
-}
-
 // Whether a file is a bitmap of a picture.
-pub fn bitmap_good(b: usize, h: usize, s: usize, file: &[u8]) -> bool
-    requires { (b ≤ 33) × (h ≤ 176) × (s ≤ 36) }
-    ensures { result ≡ bitmap_good b h s file.now }
+#[tactic(auto, unfolding(crate::specs::Bitmap::bitmap_good))]
+pub fn bitmap_good(shape: Shape, file: &[u8]) -> bool
+    ensures { result ≡ bitmap_good shape.bytes shape.rows shape.stride file.now }
 {
-    if file.len() != file_length(h, s) {
-        return false;
-    }
-    if !black_and_white(palette_of(file)) {
-        return false;
-    }
-    header_good(b, h, s, file)
+    file.len() == file_length(shape.rows, shape.stride)
+        && palette_of(file).is_some()
+        && header_good(shape, file)
 }
 
-// The bitmap check: 0, or the number of the refusal.
-pub fn check_bitmap(panel: u32, file: &[u8]) -> u8
-    ensures { result ≡ check_bitmap panel file.now }
+// The bitmap check. The panel is a code from outside: one that names none is refused by 14.
+#[tactic(auto, unfolding(crate::specs::Bitmap::check_bitmap))]
+pub fn check_bitmap(panel: u32, file: &[u8]) -> Result<(), Refusal>
+    ensures { number_given result ≡ check_bitmap panel file.now }
 {
-    if !panel::is_panel(panel) {
-        return 14;
+    let panel = Panel::try_from(panel)?;
+    if !bitmap_good(panel.shape(), file) {
+        return Err(Refusal::Bitmap);
     }
-    let p = panel as usize;
-    if bitmap_good(panel::row_bytes(p), panel::rows(p), panel::stride(p), file) {
-        return 0;
-    }
-    4
+    Ok(())
 }

@@ -2,6 +2,7 @@
 -- What is written reads back as the picture, and the check accepts it. All of it holds for any row bytes b, rows h and stride s,
 -- and for a palette in either order (request 2026-01).
 -- Assumes nothing.
+use Rattle.std.proofs.Common.{Some}
 use mathlib.Core.Path.{◌≡◌, refl, sym, ap, ◌∙◌}
 use mathlib.Core.Bool.{true, cond}
 use mathlib.Core.List.{List, ◌++◌}
@@ -62,7 +63,7 @@ module _ (b h s : ℕ) where
   )
 
   -- a written file has black first
-  pub palette_written : (picture : List ℕ) → palette_of (written_file b h s picture) ≡ BlackFirst
+  pub palette_written : (picture : List ℕ) → palette_of (written_file b h s picture) ≡ Some BlackFirst
   unfolding written_file header palette_from
   palette_written picture = refl
 
@@ -94,11 +95,11 @@ module _ (b h s : ℕ) (some : 0 < b) (within : b ≤ s) where
     abbrev pub index : ℕ
     index = bit (get_or file (header_length + ((h - 1 - y) * s + x / 8)) 0) (x % 8)
 
-    pub dot_black_first : palette_of file ≡ BlackFirst → dot b (read_picture b h s file) x y ≡ index
+    pub dot_black_first : palette_of file ≡ Some BlackFirst → dot b (read_picture b h s file) x y ≡ index
     unfolding dot
     dot_black_first e = rw (read_byte_lem file y (x / 8) hy (omega arith), e)
 
-    pub dot_white_first : Bytes file → palette_of file ≡ WhiteFirst → dot b (read_picture b h s file) x y ≡ 1 - index
+    pub dot_white_first : Bytes file → palette_of file ≡ Some WhiteFirst → dot b (read_picture b h s file) x y ≡ 1 - index
     unfolding dot
     dot_white_first bytes e =
         rw (read_byte_lem file y (x / 8) hy (omega arith), e)

@@ -2,74 +2,65 @@
 // The panel is the one whose files have this length.
 #![tactic(auto)]
 
-ghost use Rattle.std.specs.Prelude.{◌≡◌, ℕ, ◌*◌, ◌≤◌, ◌<◌, length};
+ghost use Rattle.std.specs.Prelude.{◌≡◌, ◌*◌, ◌≤◌, length, IfOk};
 ghost use Rattle.panel.specs.Panels.{row_bytes_of, rows_of, stride_of};
+ghost use Rattle.panel.specs.Names.{panel_code};
 ghost use Rattle.bitmap.specs.Header.{file_length};
-ghost use Rattle.bitmap_normal.specs.Normal.{normalized};
+ghost use Rattle.bitmap_normal.specs.Normal.{normalized, IsPanelFor};
 
-// The file in normal form, by way of the picture that it holds. `picture` is room for exactly one.
-fn normalize(b: usize, h: usize, s: usize, file: &[u8], picture: &mut [u8], out: &mut [u8]) -> usize
-    requires { (0 < b) × (b ≤ 33) × (b ≤ s) × (s ≤ 36) × (h ≤ 176) × (length picture.old ≡ h * b)
-        × (file_length h s ≤ length out.old) }
-    ensures { (result, out.new) ≡ normalized b h s file.now out.old }
+use panel::{Panel, Shape};
+use refusal::Refusal;
+
+// The file in normal form, by way of the picture that it holds. `picture` is room for exactly one: without a heap the rooms are
+// the caller's, and an answer's length stands beside its room.
+fn normalize(
+    shape: Shape,
+    file: &[u8],
+    picture: &mut [u8],
+    out: &mut [u8],
+) -> Result<usize, Refusal>
+    requires { (length picture.old ≡ shape.rows * shape.bytes)
+        × (file_length shape.rows shape.stride ≤ length out.old) }
+    ensures { (result, out.new) ≡ normalized shape.bytes shape.rows shape.stride file.now out.old }
 {
-    if !bitmap::bitmap_good(b, h, s, file) {
-        return 0;
+    if !bitmap::bitmap_good(shape, file) {
+        return Err(Refusal::Bitmap);
     }
-    bitmap_codec::read_bitmap(b, h, s, file, picture);
-    bitmap_codec::write_bitmap(b, h, s, picture, out)
-}
-
-// Room for the largest picture.
-fn largest_picture() -> [u8; 5808]
-    ensures { 5808 ≡ length result }
-{
-    [0; 5808]
+    bitmap_codec::read_bitmap(shape, file, picture);
+    Ok(bitmap_codec::write_bitmap(shape, picture, out))
 }
 
 // The same for a panel, with room for the largest picture and file.
-fn normalize_for(panel: usize, file: &[u8], out: &mut [u8]) -> usize
-    requires { (panel < 3) × (6398 ≤ length out.old) }
-    ensures { (result ≤ 6398)
-        × ((result, out.new) ≡ normalized (row_bytes_of panel) (rows_of panel) (stride_of panel) file.now out.old) }
+fn normalize_for(panel: Panel, file: &[u8], out: &mut [u8]) -> Result<usize, Refusal>
+    requires { 6398 ≤ length out.old }
+    ensures { IfOk result (λ len. len ≤ 6398)
+        × ((result, out.new) ≡ normalized (row_bytes_of (panel_code panel)) (rows_of (panel_code panel)) (stride_of (panel_code panel)) file.now out.old) }
 {
-    let mut room = largest_picture();
-    let picture: &mut [u8] = &mut room;
-    let b = panel::row_bytes(panel);
-    let h = panel::rows(panel);
-    let size = h * b;
-    normalize(b, h, panel::stride(panel), file, &mut picture[..size], out)
+    let shape = panel.shape();
+    let mut picture = [0u8; 5808];
+    normalize(shape, file, &mut picture[..shape.rows * shape.bytes], out)
 }
 
-// The panel whose bitmap files have this length; the last one where no panel's have it.
-fn panel_for(len: usize) -> usize
-    ensures { (result < 3) × ((p : ℕ) → p < 3 → len ≡ file_length (rows_of p) (stride_of p) → result ≡ p) }
-{
-    let mut p: usize = 0;
-    while p < 2 {
-        if len == bitmap::file_length(panel::rows(p), panel::stride(p)) {
-            return p;
-        }
-        p += 1;
-    }
-    p
-}
+const PANELS: [Panel; 3] = [Panel::Inch144, Panel::Inch200, Panel::Inch270];
 
-// Room for the longest file.
-fn largest_file() -> [u8; 6398]
-    ensures { 6398 ≡ length result }
+// The panel whose bitmap files have this length.
+fn panel_for(len: usize) -> Option<Panel>
+    ensures { IsPanelFor len result }
 {
-    [0; 6398]
+    PANELS.iter().copied().find(|panel| len
+        == bitmap::file_length(panel.shape().rows, panel.shape().stride))
 }
 
 fn main(rt: HostRuntime) -> std::io::Result<()> {
     // One byte more than the longest file: a longer input fills it, and no file has this length.
     let mut file = [0u8; 6399];
     let n = input::fill(&mut rt.stdin(), &mut file)?;
-    let mut out = largest_file();
-    let len = normalize_for(panel_for(n), &file[..n], &mut out);
-    if len == 0 {
-        return println!(rt; "refused 4");
+    let Some(panel) = panel_for(n) else {
+        return println!(rt; "{}", Refusal::Bitmap);
+    };
+    let mut out = [0u8; 6398];
+    match normalize_for(panel, &file[..n], &mut out) {
+        Ok(len) => rt.write_all(&out[..len]),
+        Err(refusal) => println!(rt; "{refusal}"),
     }
-    rt.write_all(&out[..len])
 }

@@ -1,7 +1,7 @@
 -- What begins with more begins with less, and bytes after a whole header change nothing.
 -- Assumes nothing.
 use mathlib.Core.Path.{◌≡◌, refl, ap}
-use mathlib.Core.Bool.{Bool, true, false, ◌&&◌, ◌||◌}
+use mathlib.Core.Bool.{Bool, true, ◌&&◌, ◌||◌}
 use mathlib.Core.List.{List, [], ◌∷◌, ◌++◌, map}
 use mathlib.Core.Logic.{⊎_elim}
 use Prim.Native.Nat.{ℕ, ◌+◌, ◌≤◌}
@@ -55,15 +55,11 @@ module _ (b h s : ℕ) (bytes : List ℕ) (e : begins_good b h s bytes ≡ true)
   unfolding begins_good
   begins-header = and_right (leb (length bytes) (file_length h s)) (header_begins b h s bytes) e
 
--- the palette decides where it is wrong, and else the fields
-module _ (b h s : ℕ) (bytes : List ℕ) where
-  pub wrong_palette : palette_begins bytes ≡ false → header_begins b h s bytes ≡ false
-  unfolding header_begins
-  wrong_palette e = rw e
-
-  pub fields_decide : palette_begins bytes ≡ true → header_begins b h s bytes ≡ every (map (field_begins bytes) (header_fields b h s))
-  unfolding header_begins
-  fields_decide e = rw e
+-- where the palette begins as it should, the fields decide
+pub fields_decide : (b h s : ℕ) (bytes : List ℕ) → palette_begins bytes ≡ true
+    → header_begins b h s bytes ≡ every (map (field_begins bytes) (header_fields b h s))
+unfolding header_begins
+fields_decide b h s bytes e = rw e
 
 -- ---- what begins with more begins with less
 

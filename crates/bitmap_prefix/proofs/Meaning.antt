@@ -1,5 +1,6 @@
 -- Bytes begin a good file exactly where some rest makes them one: the rest is taken from a file that is made for them.
 -- Assumes nothing.
+use Rattle.std.proofs.Common.{Option, Some, None}
 use mathlib.Core.Path.{◌≡◌, refl, sym, ap, ◌∙◌}
 use mathlib.Core.Bool.{Bool, true, false, cond, ◌&&◌, ◌||◌, or-true, or-false, false≢true}
 use mathlib.Core.List.{List, [], ◌∷◌, ◌++◌, map, append-nil, append_assoc}
@@ -20,7 +21,7 @@ use Rattle.bitmap.specs.declared.Also.{Also}
 use Rattle.bitmap.specs.declared.Also.TheVariants.{Only, Or, OrAnything}
 use Rattle.bitmap.specs.declared.Field.{Field}
 use Rattle.bitmap.specs.declared.Palette.{Palette}
-use Rattle.bitmap.specs.declared.Palette.TheVariants.{BlackFirst, WhiteFirst, Neither}
+use Rattle.bitmap.specs.declared.Palette.TheVariants.{BlackFirst, WhiteFirst}
 use Rattle.bitmap.specs.Numbers.{number_bytes}
 use Rattle.bitmap.specs.Palettes.{black, white, palette_from, palette_of, black_and_white}
 use Rattle.bitmap.specs.Header.{file_length, field, header_fields}
@@ -247,13 +248,13 @@ module _ (b h s : ℕ) (narrow : b ≤ 33) (low : h ≤ 176) (stride : s ≤ 36)
     made_good b h s first second [] refl either_order narrow low stride (λ k. omega arith) (begins_empty b h s),
   )
 
-  pub good_with : (palette : Palette) → black_and_white palette ≡ true
+  pub good_with : (palette : Option Palette) → black_and_white palette ≡ true
       → (file : List ℕ) × Bytes file × (bitmap_good b h s file ≡ true) × (palette_of file ≡ palette)
   unfolding made_file palette_from
-  good_with BlackFirst e =
+  good_with (Some BlackFirst) e =
       let good = good_made black white black_first in
       (made_file b h s black white [], good.0, good.1, refl)
-  good_with WhiteFirst e =
+  good_with (Some WhiteFirst) e =
       let good = good_made white black white_first in
       (made_file b h s white black [], good.0, good.1, refl)
-  good_with Neither e = absurd (false≢true e)
+  good_with None e = absurd (false≢true e)

@@ -1,5 +1,6 @@
 -- What has come whole begins a good file exactly where it is good.
 -- Assumes nothing.
+use Rattle.std.proofs.Common.{Some, None}
 use mathlib.Core.Path.{◌≡◌, refl, sym, ap, ◌∙◌}
 use mathlib.Core.Bool.{Bool, true, false, cond, ◌&&◌, ◌||◌}
 use mathlib.Core.List.{List, [], ◌∷◌, map}
@@ -17,7 +18,7 @@ use Rattle.picture.proofs.Pictures.{Bytes, bytes_drop}
 use Rattle.bitmap.specs.declared.Also.{Also}
 use Rattle.bitmap.specs.declared.Also.TheVariants.{Only, Or, OrAnything}
 use Rattle.bitmap.specs.declared.Field.{Field}
-use Rattle.bitmap.specs.declared.Palette.TheVariants.{BlackFirst, WhiteFirst, Neither}
+use Rattle.bitmap.specs.declared.Palette.TheVariants.{BlackFirst, WhiteFirst}
 use Rattle.bitmap.specs.Numbers.{number_at, number_bytes}
 use Rattle.bitmap.specs.Palettes.{black, white, palette_from, palette_of, black_and_white}
 use Rattle.bitmap.specs.Header.{header_length, file_length, header_fields, also_good, field_good}
@@ -82,7 +83,7 @@ colours_rule : (first second : ℕ)
 unfolding palette_from
 colours_rule first second = go (eqb first black && eqb second white) (eqb first white && eqb second black)
   where
-    go : (p q : Bool) → (p || q) ≡ black_and_white (cond p BlackFirst (cond q WhiteFirst Neither))
+    go : (p q : Bool) → (p || q) ≡ black_and_white (cond p (Some BlackFirst) (cond q (Some WhiteFirst) None))
     go true q = refl
     go false true = refl
     go false false = refl

@@ -1,5 +1,4 @@
-// Bitmap files of which some bytes have come: whether a good file can follow. A picture has h rows of b bytes; in a file they are s
-// bytes apart.
+// Bitmap files of which some bytes have come: whether a good file can follow.
 #![tactic(auto)]
 
 ghost use Rattle.std.specs.Prelude.{◌≡◌, ◌+◌, ◌≤◌};
@@ -11,29 +10,30 @@ ghost use Rattle.bitmap_prefix.specs.Begins.{
   header_begins,
 };
 
-use bitmap::{Also, Field};
+use bitmap::{Also, BLACK, Field, WHITE};
+use panel::Shape;
 
-// Whether what has come of the `size` bytes at index `at` begins a number.
+// Whether what has come of the `size` bytes at index `at` begins a number. Two, three or four bytes are asked, one by one: a number may
+// have come in part, and no `from_le_bytes` reads three.
 fn number_begins(size: usize, bytes: &[u8], at: usize, number: usize) -> bool
     requires { at + size ≤ 62 }
     ensures { result ≡ number_begins size bytes.now at number }
 {
     let mut left = number;
-    let mut i: usize = 0;
-    while i < size {
+    for i in 0..size {
         if bytes.len() <= at + i {
             return true;
         }
         if bytes[at + i] != (left % 256) as u8 {
             return false;
         }
-        left = left / 256;
-        i += 1;
+        left /= 256;
     }
     true
 }
 
-// Whether what has come of a field begins something that it may hold.
+// Whether what has come of a field begins something that it may hold. That a field lies in the header is asked here: the type cannot
+// have it, as `header_fields` of specs/ makes a Field of any numbers.
 fn field_begins(bytes: &[u8], field: Field) -> bool
     requires { field.at + field.size ≤ 62 }
     ensures { result ≡ field_begins bytes.now field }
@@ -41,56 +41,34 @@ fn field_begins(bytes: &[u8], field: Field) -> bool
     if number_begins(field.size, bytes, field.at, field.number) {
         return true;
     }
-    let also = field.also;
-    match also {
+    match field.also {
         Also::Only => false,
-        Also::Or(other) => {
-            let second = other as usize;
-            number_begins(field.size, bytes, field.at, second)
-        }
+        Also::Or(other) => number_begins(field.size, bytes, field.at, usize::from(other)),
         Also::OrAnything => true,
     }
 }
-
-const BLACK: usize = 0x000000;
-
-const WHITE: usize = 0xFFFFFF;
 
 // Whether what has come of the palette begins two colours.
 fn colours_begin(bytes: &[u8], first: usize, second: usize) -> bool
     ensures { result ≡ colours_begin bytes.now first second }
 {
-    if !number_begins(3, bytes, 54, first) {
-        return false;
-    }
-    number_begins(3, bytes, 58, second)
+    number_begins(3, bytes, 54, first) && number_begins(3, bytes, 58, second)
 }
 
 // Whether it begins black and white, in either order.
 fn palette_begins(bytes: &[u8]) -> bool
     ensures { result ≡ palette_begins bytes.now }
 {
-    if colours_begin(bytes, BLACK, WHITE) {
-        return true;
-    }
-    colours_begin(bytes, WHITE, BLACK)
+    colours_begin(bytes, BLACK, WHITE) || colours_begin(bytes, WHITE, BLACK)
 }
 
 // Whether what has come of the header begins a good one.
-pub fn header_begins(b: usize, h: usize, s: usize, bytes: &[u8]) -> bool
-    requires { (b ≤ 33) × (h ≤ 176) × (s ≤ 36) }
-    ensures { result ≡ header_begins b h s bytes.now }
+#[tactic(auto, unfolding(crate::specs::Begins::header_begins))]
+pub fn header_begins(shape: Shape, bytes: &[u8]) -> bool
+    ensures { result ≡ header_begins shape.bytes shape.rows shape.stride bytes.now }
 {
-    if !palette_begins(bytes) {
-        return false;
-    }
-    let fields = bitmap::table();
-    let mut i: usize = 0;
-    while i < 17 {
-        if !field_begins(bytes, bitmap::field_of(b, h, s, fields[i])) {
-            return false;
-        }
-        i += 1;
-    }
-    true
+    palette_begins(bytes)
+        && bitmap::header_fields(shape)
+            .iter()
+            .all(|&field| field_begins(bytes, field))
 }

@@ -10,7 +10,7 @@ use lib.Dec.{eqb, ltb}
 use lib.ListN.{length, get_or}
 use Rattle.lists.proofs.Rules.{None, by_test, by_cases, none_parts}
 use Rattle.panel.specs.Dots.{dot}
-use Rattle.panel.specs.declared.Shape.{Shape}
+use Rattle.panel.specs.Panels.{Sizes}
 use Rattle.panel.proofs.Dots.{dot_lt}
 use Rattle.panel.proofs.Panels.{size_of}
 use Rattle.settings.specs.Settings.{panel_of}
@@ -56,7 +56,7 @@ leaving call memory given state' memory' out' =
     record { seen = event call memory given []; state = state'; memory = memory'; out = out' }
 
 -- what each call of a fill does to the bytes of its slot, and how it is known whether it wrote them
-pub data Fills (shape : Shape) (fill : Fill) : Call → (List ℕ → Fed × List ℕ) → (Fed → Bool) → Type 0 where
+pub data Fills (shape : Sizes) (fill : Fill) : Call → (List ℕ → Fed × List ℕ) → (Fed → Bool) → Type 0 where
   feeds : (chunk : List ℕ)
       → Fills shape fill (feed_fill chunk) (feeding shape.bytes shape.rows shape.stride fill chunk) (chunk_writes shape.stride fill)
   finishes : Fills shape fill finish_fill (finishing shape.bytes shape.rows shape.stride fill) finish_writes

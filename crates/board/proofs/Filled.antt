@@ -9,7 +9,7 @@ use borrow.Author.Tests.{eqb-true, eqb-false, not-true, not-false}
 use lib.Dec.{eqb}
 use lib.ListN.{length}
 use Rattle.panel.specs.Facts.{Sized}
-use Rattle.panel.specs.declared.Shape.{Shape}
+use Rattle.panel.specs.Panels.{Sizes}
 use Rattle.panel.proofs.Panels.{size_of}
 use Rattle.settings.specs.Settings.{panel_of}
 use Rattle.settings.proofs.Accepted.{good-panel}
@@ -41,7 +41,7 @@ use Rattle.board.proofs.Tests.{Tested}
 use Rattle.board.proofs.Effects.{Fills, feeds, finishes, cancels, filled_to}
 
 -- it has no part in a run
-pub fills_apart : {shape : Shape} {fill : Fill} {call : Call} {act : List ℕ → Fed × List ℕ} {writes : Fed → Bool} → Fills shape fill call act writes → part_of call ≡ no_part
+pub fills_apart : {shape : Sizes} {fill : Fill} {call : Call} {act : List ℕ → Fed × List ℕ} {writes : Fed → Bool} → Fills shape fill call act writes → part_of call ≡ no_part
 fills_apart (feeds chunk) = refl
 fills_apart finishes = refl
 fills_apart cancels = refl
@@ -51,7 +51,7 @@ pub filled_low : (fill : Fill) → is_filling fill ≡ true → 1 ≤ fill.slot
 filled_low fill is = let n : (fill.slot ≡ 0 → ⊥) = eqb-false fill.slot 0 (not-true _ is) in omega (arith, n)
 
 -- the slot stays as long as it is
-pub act_length : {shape : Shape} {fill : Fill} {call : Call} {act : List ℕ → Fed × List ℕ} {writes : Fed → Bool} → Fills shape fill call act writes → Sized shape
+pub act_length : {shape : Sizes} {fill : Fill} {call : Call} {act : List ℕ → Fed × List ℕ} {writes : Fed → Bool} → Fills shape fill call act writes → Sized shape
     → fill_valid shape.bytes shape.rows shape.stride fill ≡ true
     → (raw : List ℕ) → length raw ≡ shape.rows * shape.bytes → length (act raw).1 ≡ shape.rows * shape.bytes
 act_length {shape} {fill} (feeds chunk) z valid raw size =
@@ -63,7 +63,7 @@ act_length {shape} {fill} cancels z valid raw size =
     (rows-cancelled shape.bytes shape.rows shape.stride z.some z.narrow z.within z.small).0
 
 -- and the fill valid
-pub act_valid : {shape : Shape} {fill : Fill} {call : Call} {act : List ℕ → Fed × List ℕ} {writes : Fed → Bool} → Fills shape fill call act writes → Sized shape
+pub act_valid : {shape : Sizes} {fill : Fill} {call : Call} {act : List ℕ → Fed × List ℕ} {writes : Fed → Bool} → Fills shape fill call act writes → Sized shape
     → fill_valid shape.bytes shape.rows shape.stride fill ≡ true → is_filling fill ≡ true → (raw : List ℕ)
     → fill_valid shape.bytes shape.rows shape.stride (act raw).0.fill ≡ true
 act_valid {shape} {fill} (feeds chunk) z valid is raw =
@@ -74,7 +74,7 @@ act_valid {shape} {fill} cancels z valid is raw =
     (valid-ended shape.bytes shape.rows shape.stride z.some z.narrow z.within z.small z.low fill raw).1
 
 -- of the same slot, or of none
-pub act_slot : {shape : Shape} {fill : Fill} {call : Call} {act : List ℕ → Fed × List ℕ} {writes : Fed → Bool} → Fills shape fill call act writes → Sized shape
+pub act_slot : {shape : Sizes} {fill : Fill} {call : Call} {act : List ℕ → Fed × List ℕ} {writes : Fed → Bool} → Fills shape fill call act writes → Sized shape
     → fill_valid shape.bytes shape.rows shape.stride fill ≡ true → (raw : List ℕ)
     → (P : ℕ → Type 0) → P fill.slot → P 0 → P (act raw).0.fill.slot
 unfolding finishing cancelling fill_of
@@ -107,7 +107,7 @@ act_slot {shape} {fill} finishes z valid raw P same none = go (eqb fill.came (fi
 act_slot {shape} {fill} cancels z valid raw P same none = none
 
 -- where it is known that the bytes were not written, they are as they were
-pub act_unwritten : {shape : Shape} {fill : Fill} {call : Call} {act : List ℕ → Fed × List ℕ} {writes : Fed → Bool}
+pub act_unwritten : {shape : Sizes} {fill : Fill} {call : Call} {act : List ℕ → Fed × List ℕ} {writes : Fed → Bool}
     → Fills shape fill call act writes → Sized shape → (raw : List ℕ) → writes (act raw).0 ≡ false → (act raw).1 ≡ raw
 unfolding feeding finishing
 act_unwritten {shape} {fill} (feeds chunk) z raw = go (goes_on b h s fill chunk)

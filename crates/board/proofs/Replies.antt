@@ -1,18 +1,19 @@
 -- What each call replies, by its number.
 -- Assumes nothing.
 use mathlib.Core.Path.{◌≡◌, refl, sym, ap, ◌∙◌}
-use mathlib.Core.Bool.{Bool, true, false}
+use mathlib.Core.Bool.{Bool, true, false, cond}
 use mathlib.Core.List.{List, [], ◌∷◌, ◌++◌}
 use Prim.Native.Nat.{ℕ, ◌-◌, ◌≤◌, ◌<◌}
 use native.Mathlib.Omega.{arith}
 use borrow.Author.Tests.{ltb-true, ne_eqb, not-false}
 use lib.Dec.{eqb, ltb}
-use lib.ListN.{length, get_or, replicate, length-replicate}
-use Rattle.lists.specs.Lists.{overlay_at}
+use lib.ListN.{length, get_or, replicate}
+use Rattle.refusal.specs.Numbers.{number_of}
+use Rattle.refusal.specs.declared.Refusal.{Refusal}
+use Rattle.refusal.proofs.Numbers.{number_some}
 use Rattle.lists.specs.Rules.{Case, case, first_of}
 use Rattle.lists.proofs.Rules.{None, past, and_left, and_right, numbered, taken, some_number, none_of, some_append, none_append}
-use Rattle.lists.proofs.Lists.{overlay-whole}
-use Rattle.panel.specs.declared.Shape.{Shape}
+use Rattle.panel.specs.Panels.{Sizes}
 use Rattle.settings.specs.Settings.{settings_good, longest_file}
 use Rattle.settings.proofs.Accepted.{good_short}
 use Rattle.picture.specs.Regions.{region_cases}
@@ -37,11 +38,15 @@ use Rattle.store.specs.Store.{set_phase, set_fill, set_summaries}
 use Rattle.store.specs.Refusals.{open_cases}
 use Rattle.store.specs.declared.Store.{Store}
 use Rattle.board.specs.State.{sizes_of, with_store, with_phase, with_fill, store_cases, empty_state, opened_state}
-use Rattle.board.specs.Calls.{reply, opening, upload_cases, drawn_to, region_upload, bitmap_upload, begin_cases, fill_begin, fill_cases, fed_reply, on_fill, fill_feed, fill_finish, fill_cancel, start_cases, starting, abandon_cases, abandoning, polling, summaries_after, in_state, poll_phase, polled, write_cases, bitmap_write, summary_cases, summarised, slot_summary}
-use Rattle.board.specs.Facts.{drawn_reply, left_by}
+use Rattle.board.specs.Calls.{reply, opening, counted, upload_cases, drawn_to, region_upload, bitmap_upload, begin_cases, fill_begin, fill_cases, fed_reply, on_fill, fill_feed, fill_finish, fill_cancel, start_cases, starting, abandon_cases, abandoning, polling, summaries_after, in_state, poll_phase, polled, write_cases, bitmap_write, summary_cases, summarised, slot_summary}
+use Rattle.board.specs.Facts.{left_by}
 use Rattle.board.specs.declared.State.{State}
 use Rattle.board.specs.declared.Reply.{Reply}
 use Rattle.board.specs.declared.runs.Left.{Left}
+
+-- no refusal has the number 0
+pub some_refused : (r : Refusal) → number_of r ≡ 0 → ⊥
+some_refused r z = omega (arith, number_some r)
 
 -- ---- opening
 
@@ -63,15 +68,13 @@ module _ (file : List ℕ) (n : ℕ) (memory : List ℕ) {r : ℕ} (is : r ≡ f
       good (past e rest) = not-false (settings_good file) e
 
     pub open_accepted : {state : State} {after : List ℕ} → state ≡ opened_state file n
-        → after ≡ overlay_at 0 (replicate (length memory) 0xFF) memory → (reply 0 state, after) ≡ opening file n memory
+        → after ≡ replicate (length memory) 0xFF → (reply 0 state, after) ≡ opening file n memory
     unfolding opening
-    open_accepted {state} {after} e f =
-        let white : List ℕ = replicate (length memory) 0xFF in
-        let g : after ≡ white = f ∙ overlay-whole white memory (rw length-replicate (omega arith)) in
-        rw (e, g)
+    open_accepted e f =
+        rw (e, f)
         (sym
         (taken (open_cases file n (length memory)) (λ number. (reply number empty_state, memory))
-        (reply 0 (opened_state file n), white) free))
+        (reply 0 (opened_state file n), replicate (length memory) 0xFF) free))
 
 -- ---- uploads
 
@@ -85,15 +88,13 @@ first_numbered g (case true n ∷ cs) p refused refused' accepted same =
 first_numbered g (case false n ∷ cs) p refused refused' accepted same =
     first_numbered g cs (and_right (ltb 0 n) (numbered cs) p) refused refused' accepted same
 
--- the reply to what was drawn, or was refused
-pub drawn_refused : (shape : Shape) (state : State) (memory : List ℕ) (slot number : ℕ) → (number ≡ 0 → ⊥)
+-- the reply to a picture that was drawn into a slot, or to one that was refused with a number
+abbrev pub drawn_reply : (shape : Sizes) → State → (memory : List ℕ) (slot number : ℕ) → Reply
+drawn_reply shape state memory slot number = reply number (cond (eqb number 0) (counted shape state memory slot) state)
+
+pub drawn_refused : (shape : Sizes) (state : State) (memory : List ℕ) (slot number : ℕ) → (number ≡ 0 → ⊥)
     → reply number state ≡ drawn_reply shape state memory slot number
 drawn_refused shape state memory slot number d = rw (ne_eqb number 0 d)
-
-pub drawn_counted : (shape : Shape) (state : State) (memory : List ℕ) (slot number : ℕ) → number ≡ 0 → {counts : List Summary}
-    → counts ≡ counted_in shape memory slot state.store.summaries → {store : Store} → store ≡ set_summaries state.store counts
-    → {after : State} → after ≡ with_store state store → reply 0 after ≡ drawn_reply shape state memory slot number
-drawn_counted shape state memory slot number z e f g = rw (z, g, f, e)
 
 module _ (state : State) (memory : List ℕ) (slot : ℕ) {r : ℕ}
     (is : r ≡ first_of (upload_cases state (length memory) slot) (λ n. n) 0) where
@@ -102,7 +103,7 @@ module _ (state : State) (memory : List ℕ) (slot : ℕ) {r : ℕ}
   replied p = (drawn_reply (sizes_of state) state p.1 slot p.0, p.1)
 
   -- what was put into the slot of these cases, and its number, is the reply of both
-  placed : (more : List Case) → numbered more ≡ true → (after : List ℕ) → r ≡ 0 → {shape : Shape} → shape ≡ sizes_of state
+  placed : (more : List Case) → numbered more ≡ true → (after : List ℕ) → r ≡ 0 → {shape : Sizes} → shape ≡ sizes_of state
       → {n : ℕ} {left : List ℕ} {given : Reply} → given ≡ drawn_reply shape state left slot n
       → ◌≡◌ {A = ℕ × List ℕ} (n, left) (first_of more (λ k. (k, memory)) (0, after))
       → ◌≡◌ {A = Reply × List ℕ} (given, left)
@@ -110,7 +111,7 @@ module _ (state : State) (memory : List ℕ) (slot : ℕ) {r : ℕ}
   placed more p after z sizes {n} {left} q e =
       let cases = upload_cases state (length memory) slot in
       ap (λ (g : Reply). (g, left)) q
-      ∙ ap (λ (s : Shape). (drawn_reply s state left slot n, left)) sizes
+      ∙ ap (λ (s : Sizes). (drawn_reply s state left slot n, left)) sizes
       ∙ ap replied e
       ∙ first_numbered replied more p (λ k. (k, memory)) (λ k. (reply k state, memory)) (0, after) (λ k d. rw d)
       ∙ none_append cases more (λ k. (reply k state, memory)) (drawn_to state slot after) (none_of cases refl is z)
@@ -122,13 +123,13 @@ module _ (state : State) (memory : List ℕ) (slot : ℕ) {r : ℕ}
         some_append (upload_cases state (length memory) slot) (bitmap_cases (sizes_of state) file) (λ n. (reply n state, memory))
         (drawn_to state slot (bitmap_drawn (sizes_of state) memory slot file)) is
 
-    pub bitmap_uploaded : r ≡ 0 → {shape : Shape} → shape ≡ sizes_of state → {n : ℕ} {after : List ℕ} {given : Reply}
+    pub bitmap_uploaded : r ≡ 0 → {shape : Sizes} → shape ≡ sizes_of state → {n : ℕ} {after : List ℕ} {given : Reply}
         → given ≡ drawn_reply shape state after slot n → (n, after) ≡ bitmap_placed shape memory slot file
         → (given, after) ≡ bitmap_upload state memory slot file
     unfolding bitmap_upload
     bitmap_uploaded z sizes q e =
         placed (bitmap_cases (sizes_of state) file) refl (bitmap_drawn (sizes_of state) memory slot file) z sizes q
-        (e ∙ ap (λ (s : Shape). bitmap_placed s memory slot file) sizes)
+        (e ∙ ap (λ (s : Sizes). bitmap_placed s memory slot file) sizes)
 
   module _ (x y width height : ℕ) (payload : List ℕ) where
     abbrev region : List Case
@@ -140,13 +141,13 @@ module _ (state : State) (memory : List ℕ) (slot : ℕ) {r : ℕ}
         some_append (upload_cases state (length memory) slot) region (λ n. (reply n state, memory))
         (drawn_to state slot (region_drawn (sizes_of state) memory slot x y width height payload)) is
 
-    pub region_uploaded : r ≡ 0 → {shape : Shape} → shape ≡ sizes_of state → {n : ℕ} {after : List ℕ} {given : Reply}
+    pub region_uploaded : r ≡ 0 → {shape : Sizes} → shape ≡ sizes_of state → {n : ℕ} {after : List ℕ} {given : Reply}
         → given ≡ drawn_reply shape state after slot n → (n, after) ≡ region_placed shape memory slot x y width height payload
         → (given, after) ≡ region_upload state memory slot x y width height payload
     unfolding region_upload
     region_uploaded z sizes q e =
         placed region refl (region_drawn (sizes_of state) memory slot x y width height payload) z sizes q
-        (e ∙ ap (λ (s : Shape). region_placed s memory slot x y width height payload) sizes)
+        (e ∙ ap (λ (s : Sizes). region_placed s memory slot x y width height payload) sizes)
 
 -- ---- fills
 
@@ -166,7 +167,7 @@ module _ (state : State) (m slot : ℕ) {r : ℕ} (is : r ≡ first_of (begin_ca
       (none_of (begin_cases state m slot) refl is z)))
 
 -- the reply to what was done to the slot being filled: where it was not written, and where it was
-module _ (shape : Shape) (state : State) (memory : List ℕ) (fed : Fed) {filled : Store} (e : filled ≡ set_fill state.store fed.fill) where
+module _ (shape : Sizes) (state : State) (memory : List ℕ) (fed : Fed) {filled : Store} (e : filled ≡ set_fill state.store fed.fill) where
   pub fed_unwritten : (wrote : Bool) → wrote ≡ false → {after : State} → after ≡ with_store state filled
       → reply fed.number after ≡ fed_reply shape state wrote memory fed
   fed_unwritten wrote w f = rw (w, f, e)
@@ -189,16 +190,16 @@ module _ (state : State) (memory : List ℕ) {r : ℕ} (is : r ≡ first_of (fil
   refused_fill act writes =
       some_number (fill_cases state (length memory)) (λ number. (reply number state, memory)) (fed_on act writes) is
 
-  done_fill : (act : Shape → List ℕ → Fed × List ℕ) (writes : Shape → Fed → Bool) → r ≡ 0 → {shape : Shape} → shape ≡ sizes_of state
+  done_fill : (act : Sizes → List ℕ → Fed × List ℕ) (writes : Sizes → Fed → Bool) → r ≡ 0 → {shape : Sizes} → shape ≡ sizes_of state
       → {fed : Fed} {after : List ℕ} {wrote : Bool} {given : Reply} → wrote ≡ writes shape fed
       → given ≡ fed_reply shape state wrote after fed
       → (fed, after) ≡ on_slot shape memory state.store.fill.slot (act shape)
       → (given, after) ≡ on_fill state memory (act (sizes_of state)) (writes (sizes_of state))
   done_fill act writes z {shape} sizes {fed} {after} {wrote} {given} w e f =
       let g : ◌≡◌ {A = Fed × List ℕ} (fed, after) (on_slot (sizes_of state) memory state.store.fill.slot (act (sizes_of state))) =
-      f ∙ ap (λ (s : Shape). on_slot s memory state.store.fill.slot (act s)) sizes in
+      f ∙ ap (λ (s : Sizes). on_slot s memory state.store.fill.slot (act s)) sizes in
       ap (λ (q : Reply). (q, after)) (e ∙ ap (λ (t : Bool). fed_reply shape state t after fed) w)
-      ∙ ap (λ (s : Shape). (fed_reply s state (writes s fed) after fed, after)) sizes
+      ∙ ap (λ (s : Sizes). (fed_reply s state (writes s fed) after fed, after)) sizes
       ∙ ap (λ (d : Fed × List ℕ). (fed_reply (sizes_of state) state (writes (sizes_of state) d.0) d.1 d.0, d.1)) g
       ∙ sym
       (taken (fill_cases state (length memory)) (λ number. (reply number state, memory)) (fed_on (act (sizes_of state)) (writes (sizes_of state)))
@@ -219,7 +220,7 @@ module _ (state : State) (memory : List ℕ) {r : ℕ} (is : r ≡ first_of (fil
   unfolding fill_cancel
   cancel_refused = refused_fill (λ raw. cancelling (sizes_of state).bytes (sizes_of state).rows) (λ fed. true)
 
-  module _ (z : r ≡ 0) {shape : Shape} (sizes : shape ≡ sizes_of state) {fed : Fed} {after : List ℕ} {wrote : Bool} {given : Reply}
+  module _ (z : r ≡ 0) {shape : Sizes} (sizes : shape ≡ sizes_of state) {fed : Fed} {after : List ℕ} {wrote : Bool} {given : Reply}
       (e : given ≡ fed_reply shape state wrote after fed) where
     pub fed_replied : (chunk : List ℕ) → wrote ≡ chunk_writes shape.stride state.store.fill fed
         → (fed, after)
@@ -286,11 +287,11 @@ module _ (state : State) (memory : List ℕ) (slot : ℕ) (out : List ℕ) {r : 
       some_number (write_cases state (length memory) slot (length out)) (λ number. (reply number state, out))
       (reply 0 state, bitmap_written (sizes_of state) memory slot out) is
 
-  pub write_accepted : r ≡ 0 → {shape : Shape} → shape ≡ sizes_of state → {after : List ℕ} → after ≡ bitmap_written shape memory slot out
+  pub write_accepted : r ≡ 0 → {shape : Sizes} → shape ≡ sizes_of state → {after : List ℕ} → after ≡ bitmap_written shape memory slot out
       → (reply 0 state, after) ≡ bitmap_write state memory slot out
   unfolding bitmap_write
   write_accepted z {shape} sizes e =
-      ap (λ (l : List ℕ). (reply 0 state, l)) (e ∙ ap (λ (s : Shape). bitmap_written s memory slot out) sizes)
+      ap (λ (l : List ℕ). (reply 0 state, l)) (e ∙ ap (λ (s : Sizes). bitmap_written s memory slot out) sizes)
       ∙ sym
       (taken (write_cases state (length memory) slot (length out)) (λ number. (reply number state, out))
       (reply 0 state, bitmap_written (sizes_of state) memory slot out)

@@ -5,7 +5,7 @@
 -- Assumes nothing.
 use Rattle.std.specs.Prelude.{ℕ, Bool, true, cond, List, ◌++◌, length, get_or, set, replicate}
 use Rattle.lists.specs.Rules.{Case, first_of}
-use Rattle.panel.specs.declared.Shape.{Shape}
+use Rattle.panel.specs.Panels.{Sizes}
 use Rattle.picture.specs.Regions.{region_cases}
 use Rattle.fill.specs.Fills.{begun_fill}
 use Rattle.fill_calls.specs.Calls.{feeding, finishing, cancelling}
@@ -41,7 +41,7 @@ opening file n memory =
 
 -- ---- a fresh count of a slot, left at its place
 
-abbrev pub counted : (shape : Shape) → State → (memory : List ℕ) (slot : ℕ) → State
+abbrev pub counted : (shape : Sizes) → State → (memory : List ℕ) (slot : ℕ) → State
 counted shape state memory slot = with_summaries state (counted_in shape memory slot state.store.summaries)
 
 -- ---- uploads: 13, 1, 3, 7, 15, then 5, 6, or 4; else a fresh count of the slot
@@ -81,7 +81,7 @@ abbrev pub fill_cases : (state : State) (memory_length : ℕ) → List Case
 fill_cases state memory_length = store_cases state memory_length ++ fill_own state.store
 
 -- the reply to it: its number, and the state with the fill that it leaves; and where the slot was written, with a fresh count of it
-abbrev pub fed_reply : (shape : Shape) → State → (wrote : Bool) (memory : List ℕ) → Fed → Reply
+abbrev pub fed_reply : (shape : Sizes) → State → (wrote : Bool) (memory : List ℕ) → Fed → Reply
 fed_reply shape state wrote memory fed =
     reply fed.number
     (with_summaries (with_fill state fed.fill)

@@ -1,21 +1,16 @@
--- What internal functions say: a state by its parts, what the tests of a call found, and what is put into a slot.
+-- What internal functions say: a state by its parts, and what a poll leaves.
 -- Assumes nothing.
-use Rattle.std.specs.Prelude.{ℕ, cond, List, eqb}
-use Rattle.panel.specs.declared.Shape.{Shape}
+use Rattle.std.specs.Prelude.{ℕ}
+use Rattle.settings.specs.declared.Settings.{Settings}
 use Rattle.poll.specs.declared.Handed.{Handed}
 use Rattle.store.specs.Store.{set_phase, set_summaries}
 use Rattle.store.specs.declared.Store.{Store}
-use Rattle.board.specs.Calls.{reply, counted, summaries_after}
+use Rattle.board.specs.Calls.{summaries_after}
 use Rattle.board.specs.declared.State.{State}
-use Rattle.board.specs.declared.Reply.{Reply}
 use Rattle.board.specs.declared.runs.Left.{Left}
 
-abbrev pub state_of : (file : List ℕ) (len : ℕ) → Store → State
-state_of file len store = record { settings = record { file = file; len = len }; store = store }
-
--- the reply to a picture that was drawn into a slot, or to one that was refused with a number
-abbrev pub drawn_reply : (shape : Shape) → State → (memory : List ℕ) (slot number : ℕ) → Reply
-drawn_reply shape state memory slot number = reply number (cond (eqb number 0) (counted shape state memory slot) state)
+abbrev pub state_of : Settings → Store → State
+state_of settings store = record { settings = settings; store = store }
 
 -- what a poll of a run leaves of the store
 abbrev pub left_by : Store → (slot : ℕ) → Handed → Left

@@ -1,7 +1,7 @@
 -- The state of a store: its settings, and what changes (crate store, which has the conditions). Assumes nothing.
 use Rattle.std.specs.Prelude.{ℕ, Bool, List}
 use Rattle.lists.specs.Rules.{Case}
-use Rattle.panel.specs.declared.Shape.{Shape}
+use Rattle.panel.specs.Panels.{Sizes}
 use Rattle.settings.specs.Settings.{shape_in}
 use Rattle.settings.specs.Kept.{file_in, no_settings, kept_settings}
 use Rattle.fill.specs.declared.Fill.{Fill}
@@ -17,7 +17,7 @@ abbrev pub file_of : State → List ℕ
 file_of state = file_in state.settings
 
 -- the sizes of its panel
-abbrev pub sizes_of : State → Shape
+abbrev pub sizes_of : State → Sizes
 sizes_of state = shape_in (file_of state)
 
 -- a state with another store: with another phase, with another fill, and with other summaries

@@ -3,39 +3,48 @@
 #![tactic(auto)]
 
 ghost use Rattle.std.specs.Prelude.{◌≡◌, ◌≤◌, length};
+ghost use Rattle.refusal.specs.Numbers.{number_of, number_given};
+ghost use Rattle.lists.specs.Rules.{first_of};
+ghost use Rattle.panel.specs.Facts.{sizes};
 ghost use Rattle.settings.specs.Settings.{longest_file};
 ghost use Rattle.slots.specs.Facts.{SlotOf};
 ghost use Rattle.store.specs.Facts.{Found};
 ghost use Rattle.board.specs.State.{file_of, with_store, store_cases, empty_state, opened_state};
 ghost use Rattle.board.specs.Calls.{
+  reply,
   opening,
+  counted,
   upload_cases,
   region_upload,
   bitmap_upload,
+  begin_cases,
   fill_begin,
   fill_cases,
   fed_reply,
   fill_feed,
   fill_finish,
   fill_cancel,
+  start_cases,
   starting,
+  abandon_cases,
   abandoning,
   polling,
   polled,
   write_cases,
   bitmap_write,
+  summary_cases,
   slot_summary,
 };
-ghost use Rattle.board.specs.Facts.{drawn_reply};
 
 mod runs;
 
 use fill_calls::Fed;
 use panel::Shape;
+use picture::Region;
 use poll::Answer;
-use run::{Phase, Tick};
-use settings::Settings;
-use store::checks::Checked;
+use refusal::Refusal;
+use run::{Phase, Run, Tick};
+use settings::{Plan, Settings};
 use store::{Store, checks};
 use summary::Summary;
 
@@ -46,7 +55,8 @@ pub struct State {
     pub store: Store,
 }
 
-// What a call gives back: its number, 0 where it is accepted, and the state for the next call.
+// What a call gives back: its number, 0 where it is accepted, and the state for the next call. No `Result`: a refused call leaves a state
+// too, and `Demand3` and the theorems read the number, as they do in `Summarised`.
 #[derive(Clone, Copy)]
 pub struct Reply {
     pub number: u8,
@@ -94,18 +104,15 @@ fn opened_state(file: &[u8], n: u32) -> State
 pub fn open(file: &[u8], n: u32, memory: &mut [u8]) -> Reply
     ensures { (result, memory.new) ≡ opening file.now n memory.old }
 {
-    let size = memory.len();
-    let number = refusals::open_number(file, n, size);
-    if number != 0 {
-        return Reply {
-            number,
-            state: empty_state(),
-        };
-    }
-    lists::fill_at(memory, 0, size, 0xFF);
-    Reply {
-        number: 0,
-        state: opened_state(file, n),
+    match refusals::open(file, n, memory.len()) {
+        Ok(()) => {
+            memory.fill(0xFF);
+            Reply {
+                number: 0,
+                state: opened_state(file, n),
+            }
+        }
+        Err(refusal) => empty_state().refuse(refusal),
     }
 }
 
@@ -114,79 +121,107 @@ impl State {
     fn with_store(self, store: Store) -> State
         ensures { result ≡ with_store self store }
     {
-        let mut next = self;
-        next.store = store;
-        next
+        State { store, ..self }
     }
 
-    // 13 or 1.
-    fn check(self, memory_len: usize) -> Checked
+    // The reply to a call that is refused. A call gives back a `Reply`, so that it matches on what its test gives, and `?` cannot stand.
+    fn refuse(self, refusal: Refusal) -> Reply
+        ensures { result ≡ reply (number_of refusal) self }
+    {
+        Reply {
+            number: refusal.number(),
+            state: self,
+        }
+    }
+
+    // The reply to a call that is accepted and leaves this store.
+    fn accept(self, store: Store) -> Reply
+        ensures { result ≡ reply 0 (with_store self store) }
+    {
+        Reply {
+            number: 0,
+            state: self.with_store(store),
+        }
+    }
+
+    // 13 or 1. Each test below goes on with the refusals of its own calls.
+    fn check(self, memory_len: usize) -> Result<Plan, Refusal>
         ensures { Found (file_of self) (store_cases self memory_len) result }
     {
-        let store = self.store;
-        checks::check_store(&self.settings.file, self.settings.len, store, memory_len)
+        checks::check_store(&self.settings, self.store, memory_len)
     }
 
     // 13, 1, 3, 7 or 15.
-    fn check_upload(self, memory_len: usize, slot: u32) -> Checked
+    fn check_upload(self, memory_len: usize, slot: u32) -> Result<Plan, Refusal>
         ensures { Found (file_of self) (upload_cases self memory_len slot) result }
     {
-        let checked = self.check(memory_len);
-        let plan = checked.plan;
-        let store = self.store;
-        let number = refusals::upload_number(checked.number, store, slot);
-        Checked { number, plan }
+        let plan = self.check(memory_len)?;
+        refusals::upload(self.store, slot)?;
+        Ok(plan)
+    }
+
+    // 13, 1, 3, 7, 15 or 16.
+    fn check_begin(self, memory_len: usize, slot: u32) -> Result<(), Refusal>
+        ensures { number_given result ≡ first_of (begin_cases self memory_len slot) (λ n. n) 0 }
+    {
+        self.check(memory_len)?;
+        refusals::begin(self.store, slot)
     }
 
     // 13, 1 or 17.
-    fn check_fill(self, memory_len: usize) -> Checked
+    fn check_fill(self, memory_len: usize) -> Result<Plan, Refusal>
         ensures { Found (file_of self) (fill_cases self memory_len) result }
     {
-        let checked = self.check(memory_len);
-        let plan = checked.plan;
-        let store = self.store;
-        let number = refusals::fill_number(checked.number, store);
-        Checked { number, plan }
+        let plan = self.check(memory_len)?;
+        refusals::fill(self.store)?;
+        Ok(plan)
+    }
+
+    // 13, 1, 8, 12, 3 or 15.
+    fn check_start(self, memory_len: usize, slot: u32) -> Result<(), Refusal>
+        ensures { number_given result ≡ first_of (start_cases self memory_len slot) (λ n. n) 0 }
+    {
+        self.check(memory_len)?;
+        refusals::start(self.store, slot)
+    }
+
+    // 13, 1 or 9.
+    fn check_abandon(self, memory_len: usize) -> Result<(), Refusal>
+        ensures { number_given result ≡ first_of (abandon_cases self memory_len) (λ n. n) 0 }
+    {
+        self.check(memory_len)?;
+        refusals::abandon(self.store)
     }
 
     // 13, 1, 3 or 11.
-    fn check_write(self, memory_len: usize, slot: u32, out_len: usize) -> Checked
+    fn check_write(self, memory_len: usize, slot: u32, out_len: usize) -> Result<Plan, Refusal>
         ensures { Found (file_of self) (write_cases self memory_len slot out_len) result }
     {
-        let checked = self.check(memory_len);
-        let plan = checked.plan;
-        let number = checked.number;
-        if number != 0 {
-            return Checked { number, plan };
-        }
-        let store = self.store;
-        let shape = plan.shape;
-        let number = refusals::write_number(number, store, shape, slot, out_len);
-        Checked { number, plan }
+        let plan = self.check(memory_len)?;
+        refusals::write(self.store, plan.shape, slot, out_len)?;
+        Ok(plan)
     }
 
-    // The reply to a picture that was drawn into a slot, with a fresh count of it, or that was refused.
-    fn reply_drawn(self, number: u8, shape: Shape, memory: &[u8], slot: u32) -> Reply
-        requires { SlotOf shape (length memory.now) slot }
-        ensures { result ≡ drawn_reply shape self memory.now slot number }
+    // 13 or 3.
+    fn check_summary(self, slot: u32) -> Result<(), Refusal>
+        ensures { number_given result ≡ first_of (summary_cases self slot) (λ n. n) 0 }
     {
-        if number != 0 {
-            return Reply {
-                number,
-                state: self,
-            };
-        }
-        let store = self.store;
-        let summaries = store.summaries;
-        let counted = slots::count_slot(shape, memory, slot, summaries);
-        Reply {
-            number: 0,
-            state: self.with_store(store.with_summaries(counted)),
-        }
+        checks::check_state(&self.settings, self.store)?;
+        refusals::summary(self.store, slot)
+    }
+
+    // The reply to a picture that was drawn into a slot, with a fresh count of it.
+    fn reply_drawn(self, shape: Shape, memory: &[u8], slot: u32) -> Reply
+        requires { SlotOf (sizes shape) (length memory.now) slot }
+        ensures { result ≡ reply 0 (counted (sizes shape) self memory.now slot) }
+    {
+        let counts = slots::count_slot(shape, memory, slot, self.store.summaries);
+        self.accept(self.store.with_summaries(counts))
     }
 
     // Paints the dots of a region of slot 1 to n: `width` by `height` dots from dot x of row y on. The payload has ceil(width / 8) bytes a
-    // row, unused low bits 0. Numbers: 13, 1, 3, 7, 15, 5, 6.
+    // row, unused low bits 0. Numbers: 13, 1, 3, 7, 15, 5, 6. The region is four numbers here, as docs/ARCHITECTURE.md has the call, and a
+    // `Region` within.
     pub fn upload_region(
         self,
         memory: &mut [u8],
@@ -199,76 +234,62 @@ impl State {
     ) -> Reply
         ensures { (result, memory.new) ≡ region_upload self memory.old slot x y width height payload.now }
     {
-        let checked = self.check_upload(memory.len(), slot);
-        let plan = checked.plan;
-        let number = checked.number;
-        if number != 0 {
-            return Reply {
-                number,
-                state: self,
-            };
+        let plan = match self.check_upload(memory.len(), slot) {
+            Ok(plan) => plan,
+            Err(refusal) => return self.refuse(refusal),
+        };
+        let region = Region {
+            x,
+            y,
+            width,
+            height,
+        };
+        match slots::place_region(plan.shape, memory, slot, region, payload) {
+            Ok(()) => self.reply_drawn(plan.shape, memory, slot),
+            Err(refusal) => self.refuse(refusal),
         }
-        let shape = plan.shape;
-        let number = slots::place_region(shape, memory, slot, x, y, width, height, payload);
-        self.reply_drawn(number, shape, memory, slot)
     }
 
     // Makes slot 1 to n hold the picture of a whole bitmap file. Numbers: 13, 1, 3, 7, 15, 4.
     pub fn upload_bitmap(self, memory: &mut [u8], slot: u32, bitmap: &[u8]) -> Reply
         ensures { (result, memory.new) ≡ bitmap_upload self memory.old slot bitmap.now }
     {
-        let checked = self.check_upload(memory.len(), slot);
-        let plan = checked.plan;
-        let number = checked.number;
-        if number != 0 {
-            return Reply {
-                number,
-                state: self,
-            };
+        let plan = match self.check_upload(memory.len(), slot) {
+            Ok(plan) => plan,
+            Err(refusal) => return self.refuse(refusal),
+        };
+        match slots::place_bitmap(plan.shape, memory, slot, bitmap) {
+            Ok(()) => self.reply_drawn(plan.shape, memory, slot),
+            Err(refusal) => self.refuse(refusal),
         }
-        let shape = plan.shape;
-        let number = slots::place_bitmap(shape, memory, slot, bitmap);
-        self.reply_drawn(number, shape, memory, slot)
     }
 
     // Begins to fill slot 1 to n with a bitmap file that comes in chunks. No byte changes. Numbers: 13, 1, 3, 7, 15, 16.
     pub fn begin_fill(self, memory: &[u8], slot: u32) -> Reply
         ensures { result ≡ fill_begin self (length memory.now) slot }
     {
-        let checked = self.check(memory.len());
-        let store = self.store;
-        let number = refusals::begin_number(checked.number, store, slot);
-        if number != 0 {
-            return Reply {
-                number,
-                state: self,
-            };
-        }
-        Reply {
-            number: 0,
-            state: self.with_store(store.with_fill(fill::begun(slot))),
+        match self.check_begin(memory.len(), slot) {
+            Ok(()) => self.accept(self.store.with_fill(fill::begun(slot))),
+            Err(refusal) => self.refuse(refusal),
         }
     }
 
     // The reply to what was done to the slot being filled: where it was written, with a fresh count of it.
     fn reply_fed(self, wrote: bool, shape: Shape, memory: &[u8], fed: Fed) -> Reply
-        requires { SlotOf shape (length memory.now) self.store.fill.slot }
-        ensures { result ≡ fed_reply shape self wrote memory.now fed }
+        requires { SlotOf (sizes shape) (length memory.now) self.store.fill.slot }
+        ensures { result ≡ fed_reply (sizes shape) self wrote memory.now fed }
     {
-        let fill = fed.fill;
-        let before = self.store;
-        let store = before.with_fill(fill);
+        let filled = self.store.with_fill(fed.fill);
         if !wrote {
             return Reply {
                 number: fed.number,
-                state: self.with_store(store),
+                state: self.with_store(filled),
             };
         }
-        let summaries = store.summaries;
-        let fresh = slots::count_slot(shape, memory, before.fill.slot, summaries);
+        let counts = slots::count_slot(shape, memory, self.store.fill.slot, filled.summaries);
         Reply {
             number: fed.number,
-            state: self.with_store(store.with_summaries(fresh)),
+            state: self.with_store(filled.with_summaries(counts)),
         }
     }
 
@@ -277,20 +298,14 @@ impl State {
     pub fn feed_fill(self, memory: &mut [u8], chunk: &[u8]) -> Reply
         ensures { (result, memory.new) ≡ fill_feed self memory.old chunk.now }
     {
-        let checked = self.check_fill(memory.len());
-        let plan = checked.plan;
-        let number = checked.number;
-        if number != 0 {
-            return Reply {
-                number,
-                state: self,
-            };
-        }
-        let shape = plan.shape;
+        let plan = match self.check_fill(memory.len()) {
+            Ok(plan) => plan,
+            Err(refusal) => return self.refuse(refusal),
+        };
         let fill = self.store.fill;
-        let fed = slots::feed_slot(shape, memory, fill, chunk);
-        let wrote = slots::chunk_wrote(shape, fill, fed);
-        self.reply_fed(wrote, shape, memory, fed)
+        let fed = slots::feed_slot(plan.shape, memory, fill, chunk);
+        let wrote = slots::chunk_wrote(plan.shape, fill, fed);
+        self.reply_fed(wrote, plan.shape, memory, fed)
     }
 
     // Ends the file, all of whose bytes have come: the slot holds its picture. Numbers: 13, 1, 17, 4. With 4, where bytes are missing, the
@@ -298,56 +313,36 @@ impl State {
     pub fn finish_fill(self, memory: &mut [u8]) -> Reply
         ensures { (result, memory.new) ≡ fill_finish self memory.old }
     {
-        let checked = self.check_fill(memory.len());
-        let plan = checked.plan;
-        let number = checked.number;
-        if number != 0 {
-            return Reply {
-                number,
-                state: self,
-            };
-        }
-        let shape = plan.shape;
-        let fill = self.store.fill;
-        let fed = slots::finish_slot(shape, memory, fill);
-        self.reply_fed(fed.number != 0, shape, memory, fed)
+        let plan = match self.check_fill(memory.len()) {
+            Ok(plan) => plan,
+            Err(refusal) => return self.refuse(refusal),
+        };
+        let fed = slots::finish_slot(plan.shape, memory, self.store.fill);
+        self.reply_fed(fed.number != 0, plan.shape, memory, fed)
     }
 
     // Gives the fill up: its slot is all white. Numbers: 13, 1, 17.
     pub fn cancel_fill(self, memory: &mut [u8]) -> Reply
         ensures { (result, memory.new) ≡ fill_cancel self memory.old }
     {
-        let checked = self.check_fill(memory.len());
-        let plan = checked.plan;
-        let number = checked.number;
-        if number != 0 {
-            return Reply {
-                number,
-                state: self,
-            };
-        }
-        let shape = plan.shape;
-        let fill = self.store.fill;
-        let fed = slots::cancel_slot(shape, memory, fill);
-        self.reply_fed(true, shape, memory, fed)
+        let plan = match self.check_fill(memory.len()) {
+            Ok(plan) => plan,
+            Err(refusal) => return self.refuse(refusal),
+        };
+        let fed = slots::cancel_slot(plan.shape, memory, self.store.fill);
+        self.reply_fed(true, plan.shape, memory, fed)
     }
 
     // Starts a run that shows slot 1 to n, at a tick reading. Numbers: 13, 1, 8, 12, 3, 15.
     pub fn start(self, memory: &[u8], slot: u32, tick: Tick) -> Reply
         ensures { result ≡ starting self (length memory.now) slot tick }
     {
-        let checked = self.check(memory.len());
-        let store = self.store;
-        let number = refusals::start_number(checked.number, store, slot);
-        if number != 0 {
-            return Reply {
-                number,
-                state: self,
-            };
-        }
-        Reply {
-            number: 0,
-            state: self.with_store(store.with_phase(Phase::Running(run::begin(slot, tick)))),
+        match self.check_start(memory.len(), slot) {
+            Ok(()) => self.accept(
+                self.store
+                    .with_phase(Phase::Running(Run::begin(slot, tick))),
+            ),
+            Err(refusal) => self.refuse(refusal),
         }
     }
 
@@ -355,18 +350,9 @@ impl State {
     pub fn abandon(self, memory: &[u8]) -> Reply
         ensures { result ≡ abandoning self (length memory.now) }
     {
-        let checked = self.check(memory.len());
-        let store = self.store;
-        let number = refusals::abandon_number(checked.number, store);
-        if number != 0 {
-            return Reply {
-                number,
-                state: self,
-            };
-        }
-        Reply {
-            number: 0,
-            state: self.with_store(store.with_phase(Phase::Abandoned)),
+        match self.check_abandon(memory.len()) {
+            Ok(()) => self.accept(self.store.with_phase(Phase::Abandoned)),
+            Err(refusal) => self.refuse(refusal),
         }
     }
 
@@ -374,17 +360,11 @@ impl State {
     pub fn write_bitmap(self, memory: &[u8], slot: u32, out: &mut [u8]) -> Reply
         ensures { (result, out.new) ≡ bitmap_write self memory.now slot out.old }
     {
-        let checked = self.check_write(memory.len(), slot, out.len());
-        let plan = checked.plan;
-        let number = checked.number;
-        if number != 0 {
-            return Reply {
-                number,
-                state: self,
-            };
-        }
-        let shape = plan.shape;
-        slots::write_slot(shape, memory, slot, out);
+        let plan = match self.check_write(memory.len(), slot, out.len()) {
+            Ok(plan) => plan,
+            Err(refusal) => return self.refuse(refusal),
+        };
+        slots::write_slot(plan.shape, memory, slot, out);
         Reply {
             number: 0,
             state: self,
@@ -397,40 +377,28 @@ impl State {
         ensures { polling result.answer result.state memory.new out.new
             ≡ polled self tick memory.old out.old }
     {
-        let store = self.store;
-        let left = runs::poll_store(
-            &self.settings.file,
-            self.settings.len,
-            store,
-            tick,
-            memory,
-            out,
-        );
-        let answer = left.answer;
-        let after = left.store;
-        let state = self.with_store(after);
-        Polled { answer, state }
+        let left = runs::poll_store(&self.settings, self.store, tick, memory, out);
+        Polled {
+            answer: left.answer,
+            state: self.with_store(left.store),
+        }
     }
 
     // The summary of slot 0 to n: how many dots are black, and the first and last row with one. Numbers: 13, 3.
     pub fn summary(self, slot: u32) -> Summarised
         ensures { result ≡ slot_summary self slot }
     {
-        let store = self.store;
-        let before = checks::check_state(&self.settings.file, self.settings.len, store);
-        let number = refusals::summary_number(before, store, slot);
-        if number != 0 {
-            return Summarised {
-                number,
+        match self.check_summary(slot) {
+            Ok(()) => Summarised {
+                number: 0,
+                summary: summary::summary_at(self.store.summaries, slot as usize),
+                state: self,
+            },
+            Err(refusal) => Summarised {
+                number: refusal.number(),
                 summary: summary::empty_summary(),
                 state: self,
-            };
-        }
-        let summaries = store.summaries;
-        Summarised {
-            number: 0,
-            summary: summary::summary_at(summaries, slot as usize),
-            state: self,
+            },
         }
     }
 }

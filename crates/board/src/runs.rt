@@ -1,14 +1,18 @@
 // Polls of the run under way.
 ghost use Rattle.std.specs.Prelude.{◌≡◌, ◌≤◌};
+ghost use Rattle.refusal.specs.Numbers.{number_of};
 ghost use Rattle.store.specs.Store.{set_summaries};
+ghost use Rattle.poll.specs.declared.Answer.TheVariants.{Refused};
 ghost use Rattle.board.specs.Calls.{summaries_after, polling, polled};
 ghost use Rattle.board.specs.Facts.{state_of, left_by};
 
 use poll::{Answer, Handed};
+use refusal::Refusal;
 use run::{Phase, Tick};
+use settings::{AcceptedFile, Settings};
 use store::{Store, checks};
 
-// What a poll leaves: its answer, and what changes of the state.
+// What a poll leaves: its answer, and what changes of the state. `Polled` has the whole state, `Handed` the phase alone.
 #[derive(Clone, Copy)]
 pub struct Left {
     pub answer: Answer,
@@ -20,15 +24,10 @@ fn after_poll(store: Store, slot: u32, answer: Answer) -> Store
     requires { slot ≤ 7 }
     ensures { result ≡ set_summaries store (summaries_after answer slot store.summaries) }
 {
-    match answer {
-        Answer::Refused(_) => store,
-        Answer::Write(_) => store,
-        Answer::Line(_) => store,
-        Answer::Wait(_) => store,
-        Answer::Done => {
-            let summaries = store.summaries;
-            store.with_summaries(summary::with_shown(summaries, slot as usize))
-        }
+    if matches!(answer, Answer::Done) {
+        store.with_summaries(summary::with_shown(store.summaries, slot as usize))
+    } else {
+        store
     }
 }
 
@@ -37,49 +36,48 @@ fn leave(store: Store, slot: u32, handed: Handed) -> Left
     requires { slot ≤ 7 }
     ensures { result ≡ left_by store slot handed }
 {
-    let answer = handed.answer;
-    let phase = handed.phase;
     Left {
-        answer,
-        store: after_poll(store.with_phase(phase), slot, answer),
+        answer: handed.answer,
+        store: after_poll(store.with_phase(handed.phase), slot, handed.answer),
+    }
+}
+
+// What a refused poll leaves.
+fn refused(store: Store, refusal: Refusal) -> Left
+    ensures { (result.answer ≡ Refused (number_of refusal)) × (result.store ≡ store) }
+{
+    Left {
+        answer: Answer::Refused(refusal.number()),
+        store,
     }
 }
 
 // A poll on the parts of a state: 13, 1, 9, 11 or 10, or what the run hands out.
 pub fn poll_store(
-    file: &[u8],
-    len: usize,
+    settings: &Settings,
     store: Store,
     tick: Tick,
     memory: &mut [u8],
     out: &mut [u8],
 ) -> Left
-    ensures { polling result.answer (state_of file.now len result.store) memory.new out.new
-        ≡ polled (state_of file.now len store) tick memory.old out.old }
+    ensures { polling result.answer (state_of settings.now result.store) memory.new out.new
+        ≡ polled (state_of settings.now store) tick memory.old out.old }
 {
-    let phase = store.phase;
-    let checked = checks::check_store(file, len, store, memory.len());
-    let number = checked.number;
-    let plan = checked.plan;
-    if number != 0 {
-        return Left {
-            answer: Answer::Refused(number),
-            store,
-        };
-    }
-    match phase {
-        Phase::Idle => Left {
-            answer: Answer::Refused(9),
-            store,
-        },
-        Phase::Abandoned => Left {
-            answer: Answer::Refused(9),
-            store,
-        },
-        Phase::Running(run) => leave(
-            store,
-            run.slot,
-            poll::poll_run(&file[..len], plan, run, tick, memory, out),
-        ),
+    let plan = match checks::check_store(settings, store, memory.len()) {
+        Ok(plan) => plan,
+        Err(refusal) => return refused(store, refusal),
+    };
+    // The first two answer alike, each in its own arm: the contract goes by the phase, which a joint arm would not know.
+    match store.phase {
+        Phase::Idle => refused(store, Refusal::NoRun),
+        Phase::Abandoned => refused(store, Refusal::NoRun),
+        Phase::Running(run) => {
+            let accepted = AcceptedFile {
+                file: &settings.file[..settings.len],
+                plan,
+            };
+            let handed = poll::poll_run(accepted, run, tick, memory, out);
+            leave(store, run.slot, handed)
+        }
     }
 }

@@ -2,73 +2,35 @@
 // `picture::paint_region`, and no crate of the driver stands on it.
 #![tactic(auto)]
 
-ghost use Rattle.std.specs.Prelude.{◌≡◌, ◌+◌, ◌*◌, ◌<◌, ◌≤◌, true, length};
-ghost use Rattle.lists.specs.Rules.{first_of};
-ghost use Rattle.panel.specs.Dots.{dot};
-ghost use Rattle.picture.specs.Slots.{painted};
-ghost use Rattle.picture.specs.Regions.{region_good, payload_good, with_region};
-ghost use Rattle.by_dots.specs.Regions.{picture_cases, picture_region};
+ghost use Rattle.std.specs.Prelude.{◌≡◌};
+ghost use Rattle.by_dots.specs.Regions.{picture_region};
+ghost use Rattle.refusal.specs.Numbers.{number_given};
 
-// The rows of the 2.7" panel, and the bytes of each.
-const ROWS: usize = 176;
+use panel::{Panel, Shape};
+use picture::{ByBytes, Painter, Region};
+use refusal::Refusal;
 
-const ROW_BYTES: usize = 33;
+// Each dot by itself.
+struct ByDots;
 
-// Paints `height` rows of rb bytes on a picture of h rows of b bytes, at x, y: each dot by itself.
-fn paint_rows(
-    b: usize,
-    h: usize,
-    raw: &mut [u8],
-    x: usize,
-    y: usize,
-    width: usize,
-    height: usize,
-    rb: usize,
-    rows: &[u8],
-)
-    requires { (length raw.old ≡ h * b) × (x + width ≤ 8 * b) × (y + height ≤ h) × (width ≤ 8 * rb)
-        × (height * rb ≤ length rows.now) × (0 < b) × (b ≤ 33) × (h ≤ 176) }
-    ensures { raw.new
-        ≡ painted b h raw.old x y width height (dot rb rows.now) }
-{
-    let mut j = 0;
-    while j < height {
-        let end = (j + 1) * rb;
-        picture::paint_dots(b, h, raw, x, y + j, width, &rows[end - rb..end], 0);
-        j += 1;
+impl Painter for ByDots {
+    fn paint_row(shape: Shape, raw: &mut [u8], x: usize, y: usize, width: usize, row: &[u8]) {
+        picture::paint_dots(shape, raw, x, y, width, row, 0);
     }
 }
 
-// Paints a good region.
-fn paint_region(picture: &mut [u8], x: u32, y: u32, width: u32, height: u32, payload: &[u8])
-    requires { (length picture.old ≡ 176 * 33) × (region_good 33 176 x y width height ≡ true)
-        × (payload_good width height payload.now ≡ true) }
-    ensures { picture.new
-        ≡ with_region 33 176 picture.old 0 x y width height payload.now }
+// Paints a region on a picture of the 2.7" panel in a given way, where the picture has its bytes and the region is good.
+fn paint<P: Painter>(region: Region, payload: &[u8], picture: &mut [u8]) -> Result<(), Refusal>
+    ensures { (number_given result, picture.new)
+        ≡ picture_region region.x region.y region.width region.height payload.now picture.old }
 {
-    let w = width as usize;
-    paint_rows(
-        ROW_BYTES,
-        ROWS,
-        picture,
-        x as usize,
-        y as usize,
-        w,
-        height as usize,
-        (w + 7) / 8,
-        payload,
-    );
-}
-
-// The number of a refusal, 1, 5 or 6; 0 where there is none.
-fn refusal(x: u32, y: u32, width: u32, height: u32, payload: &[u8], picture: &[u8]) -> u8
-    ensures { result
-        ≡ first_of (picture_cases x y width height payload.now picture.now) (λ n. n) 0 }
-{
-    if picture.len() != ROWS * ROW_BYTES {
-        return 1;
+    let shape = Panel::Inch270.shape();
+    if picture.len() != shape.rows * shape.bytes {
+        return Err(Refusal::Memory);
     }
-    picture::region_number(ROW_BYTES, ROWS, x, y, width, height, payload)
+    picture::check_region(shape, region, payload)?;
+    picture::paint_region_by::<P>(shape, picture, 0, region, payload);
+    Ok(())
 }
 
 // A region on a picture of the 2.7" panel, as uploads paint it: by whole bytes.
@@ -83,12 +45,13 @@ pub extern "C" fn region_by_bytes(
 ) -> u8
     ensures { (result, picture.new) ≡ picture_region x y width height payload.now picture.old }
 {
-    let number = refusal(x, y, width, height, payload, picture);
-    if number != 0 {
-        return number;
-    }
-    picture::paint_region(ROW_BYTES, ROWS, picture, 0, x, y, width, height, payload);
-    0
+    let region = Region {
+        x,
+        y,
+        width,
+        height,
+    };
+    refusal::number_given(paint::<ByBytes>(region, payload, picture))
 }
 
 // The same, dot by dot.
@@ -104,10 +67,11 @@ pub extern "C" fn region_by_dots(
     ensures { (result, picture.new)
         ≡ picture_region x y width height payload.now picture.old }
 {
-    let number = refusal(x, y, width, height, payload, picture);
-    if number != 0 {
-        return number;
-    }
-    paint_region(picture, x, y, width, height, payload);
-    0
+    let region = Region {
+        x,
+        y,
+        width,
+        height,
+    };
+    refusal::number_given(paint::<ByDots>(region, payload, picture))
 }

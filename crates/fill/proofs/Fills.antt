@@ -1,5 +1,6 @@
 -- Laws of the fill, and of the slot, for which some bytes of a file have come.
 -- Assumes nothing.
+use Rattle.std.proofs.Common.{None}
 use mathlib.Core.Path.{◌≡◌, refl, sym, ap, ◌∙◌}
 use mathlib.Core.Bool.{true, false}
 use mathlib.Core.List.{List, [], ◌++◌, append-nil}
@@ -19,7 +20,6 @@ use Rattle.bitmap.specs.Numbers.{number_at}
 use Rattle.bitmap.specs.Header.{header_length}
 use Rattle.bitmap.specs.Palettes.{palette_of, dots_of}
 use Rattle.bitmap_codec.specs.Codec.{read_picture}
-use Rattle.bitmap.specs.declared.Palette.TheVariants.{Neither}
 use Rattle.bitmap_codec.proofs.RoundTrip.{length_read}
 use Rattle.fill.specs.Fills.{fill_with, none_kept, rows_come, kept_count, fill_of, slot_of}
 use Rattle.fill.proofs.Pieces.{count_in, rows_in_lem}
@@ -43,7 +43,7 @@ fill_came s slot bytes = refl
 
 -- while the header comes
 pub fill_header : (s slot : ℕ) (bytes : List ℕ) → length bytes < header_length
-    → fill_of s slot bytes ≡ fill_with slot (length bytes) Neither (overlay bytes none_kept)
+    → fill_of s slot bytes ≡ fill_with slot (length bytes) None (overlay bytes none_kept)
 unfolding fill_of
 fill_header s slot bytes h =
     let t : ltb (length bytes) header_length ≡ true = lt-ltb (length bytes) header_length h in

@@ -1,5 +1,6 @@
 -- The conditions of a fill hold of exactly the fills that bytes of a good file leave.
 -- Assumes nothing.
+use Rattle.std.proofs.Common.{Option, Some, None}
 use mathlib.Core.Path.{◌≡◌, refl, sym, ap, ◌∙◌}
 use mathlib.Core.Bool.{true, not, ◌&&◌, ◌||◌, or-true, false≢true}
 use mathlib.Core.List.{List, [], ◌∷◌, ◌++◌}
@@ -19,7 +20,7 @@ use Rattle.bitmap.specs.Header.{header_length, file_length}
 use Rattle.bitmap.specs.Palettes.{palette_of, black_and_white}
 use Rattle.bitmap.specs.Bitmap.{bitmap_good}
 use Rattle.bitmap.specs.declared.Palette.{Palette}
-use Rattle.bitmap.specs.declared.Palette.TheVariants.{BlackFirst, WhiteFirst, Neither}
+use Rattle.bitmap.specs.declared.Palette.TheVariants.{BlackFirst, WhiteFirst}
 use Rattle.bitmap_prefix.specs.Begins.{header_begins, begins_good}
 use Rattle.bitmap_prefix.proofs.Begins.{both, begins-fits, begins-header, begins_empty, header_front, header_same}
 use Rattle.bitmap_prefix.proofs.Whole.{begins_palette, good_length, good-begins}
@@ -63,11 +64,11 @@ kept_are n kept long h e =
     sym (take-append-drop n kept) ∙ rw (l, z)
 
 -- a fill, by its parts
-fill_is : (fill : Fill) (came : ℕ) (palette : Palette) (kept : List ℕ) → fill.came ≡ came → fill.palette ≡ palette → fill.kept ≡ kept
+fill_is : (fill : Fill) (came : ℕ) (palette : Option Palette) (kept : List ℕ) → fill.came ≡ came → fill.palette ≡ palette → fill.kept ≡ kept
     → fill ≡ fill_with fill.slot came palette kept
 fill_is fill came palette kept e f g =
     ap (λ (c : ℕ). fill_with fill.slot c fill.palette fill.kept) e
-    ∙ ap (λ (p : Palette). fill_with fill.slot came p fill.kept) f
+    ∙ ap (λ (p : Option Palette). fill_with fill.slot came p fill.kept) f
     ∙ ap (fill_with fill.slot came palette) g
 
 -- ---- the fills of bytes that begin a good file keep the conditions
@@ -87,7 +88,7 @@ module _ (b h s : ℕ) (some : 0 < b) (narrow : b ≤ 33) (within : b ≤ s) (st
             let t = lt-ltb (length l) header_length q in
             let after : all_zero (drop (kept_count s (length l)) (overlay l none_kept)) ≡ true = rw t (kept_zero l) in
             let room = eq-eqb (length (overlay l none_kept)) header_length (length-overlay l none_kept (omega arith)) in
-            let good : header_rule b h s (fill_with slot (length l) Neither (overlay l none_kept)) ≡ true =
+            let good : header_rule b h s (fill_with slot (length l) None (overlay l none_kept)) ≡ true =
             rw (t, front, begins-header b h s l begins) in
             rw (fill_header s slot l q)
             (all_kept (keep placed (keep (le-leb (length l) (file_length h s) (begins-fits b h s l begins))
@@ -115,10 +116,10 @@ module _ (b h s : ℕ) (some : 0 < b) (narrow : b ≤ 33) (within : b ≤ s) (st
 
   -- ---- a fill that keeps the conditions is one of bytes that begin a good file
 
-  neither : (palette : Palette) → not (black_and_white palette) ≡ true → palette ≡ Neither
-  neither BlackFirst e = absurd (false≢true e)
-  neither WhiteFirst e = absurd (false≢true e)
-  neither Neither e = refl
+  neither : (palette : Option Palette) → not (black_and_white palette) ≡ true → palette ≡ None
+  neither (Some BlackFirst) e = absurd (false≢true e)
+  neither (Some WhiteFirst) e = absurd (false≢true e)
+  neither None e = refl
 
   module _ (fill : Fill) (valid : fill_valid b h s fill ≡ true) where
     -- something that begins a good file leaves it, and bytes where it keeps bytes
@@ -152,7 +153,7 @@ module _ (b h s : ℕ) (some : 0 < b) (narrow : b ≤ 33) (within : b ≤ s) (st
           λ bytes. bytes_take fill.came fill.kept bytes,
           begins,
           is,
-          fill_is fill (length l) Neither (overlay l none_kept) (sym is) palette (kept_are fill.came fill.kept long (omega arith) z)
+          fill_is fill (length l) None (overlay l none_kept) (sym is) palette (kept_are fill.came fill.kept long (omega arith) z)
               ∙ sym (fill_header s fill.slot l (omega arith)),
         )
 

@@ -1,5 +1,6 @@
 -- Laws of whole rows, taken in straight from where they stand in a chunk.
 -- Assumes nothing.
+use Rattle.std.proofs.Common.{Option}
 use mathlib.Core.Path.{◌≡◌, sym, ap, ◌∙◌}
 use mathlib.Core.List.{List}
 use Prim.Native.Nat.{ℕ, suc, ◌+◌, ◌-◌, ◌*◌, ◌≤◌, ◌<◌}
@@ -30,7 +31,7 @@ rows_room h s came n some at l =
     let r : rows_come s (came + n * s) ≡ j + n = ap (rows_come s) e ∙ rows_in_lem s (j + n) 0 some in
     omega (arith, r, rows_few h s (came + n * s) some l)
 
-module _ (b h s slot : ℕ) (palette : Palette) where
+module _ (b h s slot : ℕ) (palette : Option Palette) where
   -- a fill that stands where a row begins
   abbrev before : (came : ℕ) → Fill
   before came = fill_with slot came palette none_kept

@@ -1,5 +1,6 @@
 -- What the bytes of a chunk leave of a slot has as many bytes as before, and is bytes where the slot, the fill and the chunk are.
 -- Assumes nothing.
+use Rattle.std.proofs.Common.{Option}
 use mathlib.Core.Path.{◌≡◌, refl, ◌∙◌}
 use mathlib.Core.Bool.{cond}
 use mathlib.Core.List.{List, [], ◌∷◌, ◌++◌, map}
@@ -46,7 +47,7 @@ bytes_overlay at bytes out p q =
 
 -- ---- a row
 
-module _ (b h : ℕ) (some : 0 < b) (palette : Palette) (y : ℕ) (low : y < h) (row raw : List ℕ) (long : b ≤ length row)
+module _ (b h : ℕ) (some : 0 < b) (palette : Option Palette) (y : ℕ) (low : y < h) (row raw : List ℕ) (long : b ≤ length row)
     (size : length raw ≡ h * b) where
   abbrev dots : List ℕ
   dots = map (dots_of palette) (take b row)

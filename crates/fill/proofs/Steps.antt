@@ -1,5 +1,6 @@
 -- What one byte does to the fill, and to the slot, for which some bytes of a file have come: they are those of one byte more.
 -- Assumes nothing.
+use Rattle.std.proofs.Common.{None}
 use mathlib.Core.Path.{◌≡◌, refl, sym, ap, ◌∙◌}
 use mathlib.Core.List.{List, [], ◌∷◌, ◌++◌, map}
 use Prim.Native.Nat.{ℕ, suc, ◌+◌, ◌-◌, ◌*◌, ◌/◌, ◌%◌, ◌≤◌, ◌<◌}
@@ -22,7 +23,6 @@ use Rattle.bitmap_codec.proofs.RoundTrip.{length_read, rows_read}
 use Rattle.bitmap_codec.proofs.Rows.{read_row}
 use Rattle.fill.specs.Fills.{fill_with, none_kept, rows_come, kept_count, fill_of, slot_of}
 use Rattle.fill.specs.Facts.{part_length}
-use Rattle.bitmap.specs.declared.Palette.TheVariants.{Neither}
 use Rattle.fill.specs.Feeding.{keeping, with_row, completed, piece_fed}
 use Rattle.fill.specs.declared.Fill.{Fill}
 use Rattle.fill.proofs.Pieces.{count_header, part_header, part_row, count_in, rows_in_lem, row_of, row_part, part_fed, whole-fed}
@@ -49,9 +49,9 @@ module _ (b h s : ℕ) (some : 0 < s) (near : s ≤ header_length) (slot : ℕ) 
   module _ (short : length l < header_length) (raw : List ℕ) where
     -- the fill before it, and with the byte kept
     abbrev before : Fill
-    before = fill_with slot (length l) Neither (overlay l none_kept)
+    before = fill_with slot (length l) None (overlay l none_kept)
 
-    kept_header : keeping s before (x ∷ []) ≡ fill_with slot (length next) Neither (overlay next none_kept)
+    kept_header : keeping s before (x ∷ []) ≡ fill_with slot (length next) None (overlay next none_kept)
     kept_header = rw (count_header s (length l) short, kept_more l (x ∷ []) (length l) refl (omega arith), long)
 
     fed_part : length l + 1 < header_length → Makes raw raw

@@ -1,6 +1,6 @@
 -- Request 2026-02: what the bytes of a chunk do to a fill and to the slot that it fills.
 -- Assumes nothing.
-use Rattle.std.specs.Prelude.{ℕ, ◌+◌, ◌-◌, ◌*◌, cond, List, [], ◌∷◌, map, eqb, length, take}
+use Rattle.std.specs.Prelude.{ℕ, ◌+◌, ◌-◌, ◌*◌, cond, List, [], ◌∷◌, map, eqb, length, take, Option}
 use Rattle.lists.specs.Lists.{overlay_at}
 use Rattle.picture.specs.Slots.{picture_of, raw_of}
 use Rattle.bitmap.specs.Header.{header_length}
@@ -15,11 +15,11 @@ keeping s fill piece =
     fill_with fill.slot (fill.came + length piece) fill.palette (overlay_at (kept_count s fill.came) piece fill.kept)
 
 -- a slot with a row of a file in row y of its picture; the palette says the row's dots
-abbrev pub with_row : (b h : ℕ) (palette : Palette) (y : ℕ) (row raw : List ℕ) → List ℕ
+abbrev pub with_row : (b h : ℕ) (palette : Option Palette) (y : ℕ) (row raw : List ℕ) → List ℕ
 with_row b h palette y row raw = raw_of b h (overlay_at (y * b) (map (dots_of palette) (take b row)) (picture_of b h raw))
 
 -- no byte is kept any more
-abbrev pub emptied : (fill : Fill) (palette : Palette) → Fill
+abbrev pub emptied : (fill : Fill) (palette : Option Palette) → Fill
 emptied fill palette = fill_with fill.slot fill.came palette none_kept
 
 -- what is kept is whole: the header says the palette, and a row is written; rows come from the bottom row up

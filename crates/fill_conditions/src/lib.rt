@@ -1,80 +1,40 @@
-// Whether a fill keeps the conditions. A picture has h rows of b bytes; in a file they are s bytes apart.
+// Whether a fill keeps the conditions.
 #![tactic(auto)]
 
-ghost use Rattle.std.specs.Prelude.{◌≡◌, ◌<◌, ◌≤◌, not, ◌||◌, eqb, length, take, drop};
-ghost use Rattle.bitmap_prefix.specs.Begins.{header_begins};
+ghost use Rattle.std.specs.Prelude.{◌≡◌, ◌≤◌, length, drop};
 ghost use Rattle.fill.specs.Conditions.{all_zero, header_rule, fill_valid};
 
 use fill::Fill;
+use panel::Shape;
 
-// Whether the bytes from an index on are all 0.
+// Whether the bytes from an index on are all 0. All are looked at, so that the compiler can take sixteen at once: `all` takes twice as long.
 fn zero_from(bytes: &[u8], from: usize) -> bool
     requires { from ≤ length bytes.now }
     ensures { result ≡ all_zero (drop from bytes.now) }
 {
-    let mut any: u8 = 0;
-    let mut i = from;
-    while i < bytes.len() {
-        any = any | bytes[i];
-        i += 1;
-    }
-    any == 0
-}
-
-// Whether the first `came` bytes that are kept begin a good header.
-fn kept_begins(b: usize, h: usize, s: usize, kept: &[u8], came: usize) -> bool
-    requires { (b ≤ 33) × (h ≤ 176) × (s ≤ 36) × (came ≤ length kept.now) }
-    ensures { result ≡ header_begins b h s (take came kept.now) }
-{
-    bitmap_prefix::header_begins(b, h, s, &kept[..came])
+    bytes[from..].iter().fold(0, |any, byte| any | *byte) == 0
 }
 
 // Whether the header, or what has come of it, and the palette are as they should be. Where nothing has come, nothing is looked at.
-fn header_valid(b: usize, h: usize, s: usize, fill: Fill) -> bool
-    requires { (b ≤ 33) × (h ≤ 176) × (s ≤ 36) }
-    ensures { result ≡ header_rule b h s fill }
+#[tactic(auto, using(fill::proofs::Taken::rule_none))]
+fn header_valid(shape: Shape, fill: Fill) -> bool
+    ensures { result ≡ header_rule shape.bytes shape.rows shape.stride fill }
 {
     let came = fill.came;
-    let palette = fill.palette;
-    let known = bitmap::black_and_white(palette);
+    let known = fill.palette.is_some();
     if 62 <= came {
         return known;
     }
-    if known {
-        return false;
-    }
-    if came == 0 {
-        return true;
-    }
-    let kept = fill.kept;
-    kept_begins(b, h, s, &kept, came)
-}
-
-// Whether no byte has come where there is no slot.
-fn slot_valid(slot: u32, came: usize) -> bool
-    ensures { result ≡ (not (eqb slot 0) || eqb came 0) }
-{
-    if slot != 0 {
-        return true;
-    }
-    came == 0
+    !known && (came == 0 || bitmap_prefix::header_begins(shape, &fill.kept[..came]))
 }
 
 // Whether a fill is one that chunks can leave.
-pub fn valid(b: usize, h: usize, s: usize, fill: Fill) -> bool
-    requires { (0 < b) × (b ≤ 33) × (b ≤ s) × (s ≤ 36) × (h ≤ 176) }
-    ensures { result ≡ fill_valid b h s fill }
+#[tactic(auto, unfolding(fill::specs::Conditions::fill_valid))]
+pub fn valid(shape: Shape, fill: Fill) -> bool
+    ensures { result ≡ fill_valid shape.bytes shape.rows shape.stride fill }
 {
-    let came = fill.came;
-    let kept = fill.kept;
-    if !slot_valid(fill.slot, came) {
-        return false;
-    }
-    if bitmap::file_length(h, s) < came {
-        return false;
-    }
-    if !zero_from(&kept, fill::kept_count(s, came)) {
-        return false;
-    }
-    header_valid(b, h, s, fill)
+    (fill.slot != 0 || fill.came == 0)
+        && fill.came <= bitmap::file_length(shape.rows, shape.stride)
+        && zero_from(&fill.kept, fill::kept_count(shape, fill.came))
+        && header_valid(shape, fill)
 }

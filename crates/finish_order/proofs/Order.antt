@@ -1,11 +1,11 @@
 -- Where the things of an update stand in their order.
 -- Assumes nothing.
 use mathlib.Core.Path.{◌≡◌, refl, sym, ap, ◌∙◌}
-use mathlib.Core.List.{List, ◌++◌, append_assoc}
+use mathlib.Core.List.{List, [], ◌∷◌, ◌++◌, append_assoc}
 use Prim.Native.Nat.{ℕ, zero, suc, ◌+◌, ◌-◌, ◌*◌, ◌/◌, ◌%◌, ◌≤◌, ◌<◌}
 use native.Mathlib.Nat.{not-suc-le-zero, le_of_suc-le-suc, one-mul, suc-mul}
 use native.Mathlib.Omega.{arith}
-use lib.ListN.{length}
+use lib.ListN.{length, get_or}
 use Rattle.lists.proofs.Elements.{at_left, at_right}
 use Rattle.finish_order.specs.declared.Step.{Step}
 use Rattle.finish_order.specs.Order.{Thing, done, otp_byte, raise, one_repeat, repeats, stage, start_dc_dc, send_update, stop_dc_dc, things_of, thing_at}
@@ -77,20 +77,29 @@ module _ (otp : List ℕ) (at : ℕ) where
 
 -- ---- the stages, and what comes after them
 
--- the stages that are left from an index on
-abbrev pub stages_left : (at : ℕ) → ℕ
-stages_left at = (0x48 - at) / 8
+-- the stages begin eight bytes apart
+pub stage_start : (i : ℕ) → i < 4 → get_or (0x28 ∷ 0x30 ∷ 0x38 ∷ 0x40 ∷ []) i 0 ≡ 0x28 + 8 * i
+stage_start zero h = refl
+stage_start (suc zero) h = refl
+stage_start (suc (suc zero)) h = refl
+stage_start (suc (suc (suc zero))) h = refl
+stage_start (suc (suc (suc (suc i)))) h = absurd (omega arith)
 
-module _ (otp : List ℕ) (at k : ℕ) (more : at < 0x48) (eights : at % 8 ≡ 0) where
-  one_more : stages_left at ≡ suc (stages_left (at + 8))
+-- n stages from an index on: place k is in the first, or it is counted on from the next
+module _ (otp : List ℕ) (at k n : ℕ) (some : 0 < n) where
+  one_more : n ≡ suc (n - 1)
   one_more = omega arith
 
-  pub in_stage : k < length (stage otp at) → thing_at (stage otp at) k ≡ thing_at (stages_from otp at (stages_left at)) k
-  in_stage h = rw one_more (sym (at_left (stage otp at) (stages_from otp (at + 8) (stages_left (at + 8))) done k h))
+  pub in_stage : k < length (stage otp at) → thing_at (stage otp at) k ≡ thing_at (stages_from otp at n) k
+  in_stage h =
+      sym (at_left (stage otp at) (stages_from otp (at + 8) (n - 1)) done k h)
+      ∙ ap (λ (m : ℕ). thing_at (stages_from otp at m) k) (sym one_more)
 
   pub past_stage : length (stage otp at) ≤ k
-      → thing_at (stages_from otp (at + 8) (stages_left (at + 8))) (k - length (stage otp at)) ≡ thing_at (stages_from otp at (stages_left at)) k
-  past_stage h = rw one_more (sym (at_right (stage otp at) (stages_from otp (at + 8) (stages_left (at + 8))) done k h))
+      → thing_at (stages_from otp (at + 8) (n - 1)) (k - length (stage otp at)) ≡ thing_at (stages_from otp at n) k
+  past_stage h =
+      sym (at_right (stage otp at) (stages_from otp (at + 8) (n - 1)) done k h)
+      ∙ ap (λ (m : ℕ). thing_at (stages_from otp at m) k) (sym one_more)
 
 -- ---- the whole order
 

@@ -84,74 +84,63 @@ fn step_before(k: usize) -> Step
 fn step_after(k: usize) -> Step
     ensures { (otp : List ℕ) → StandsFor otp result (λ _ _ _. after_start) k }
 {
-    if k < 8 { AFTER[k] } else { Step::Done }
+    AFTER.get(k).copied().unwrap_or(Step::Done)
 }
 
 // The low seven bits of a REPEAT or a DELAY byte.
 fn low_seven(byte: u8) -> u16
     ensures { (result ≡ byte % 128) × (result < 128) }
 {
-    (byte % 128) as u16
+    u16::from(byte % 128)
 }
 
 // The value of a phase at a repeat of its stage, counted from 1. Its initial value is at `at`, its variation two bytes further on.
-fn phase(otp: &[u8], at: usize, turn: usize) -> u8
-    requires { (at + 2 < length otp.now) × (turn ≤ 127) }
+fn phase(otp: &[u8; 128], at: usize, turn: usize) -> u8
+    requires { (at + 2 < 128) × (turn ≤ 127) }
     ensures { result ≡ (otp_byte otp.now at + turn * otp_byte otp.now (at + 2)) % 256 }
 {
-    ((otp[at] as usize + turn * otp[at + 2] as usize) % 256) as u8
+    ((usize::from(otp[at]) + turn * usize::from(otp[at + 2])) % 256) as u8
 }
 
 // How many things the stage at `at` gives out.
-fn stage_length(otp: &[u8], at: usize) -> usize
-    requires { at < length otp.now }
+fn stage_length(otp: &[u8; 128], at: usize) -> usize
+    requires { at < 128 }
     ensures { (result ≡ length (stage otp.now at)) × (result ≤ 508) }
 {
-    4 * low_seven(otp[at]) as usize
+    4 * usize::from(low_seven(otp[at]))
 }
 
 // The step at place k of the stage at `at`.
-fn stage_step(otp: &[u8], at: usize, k: usize) -> Step
-    requires { (at + 8 ≤ length otp.now) × (k < length (stage otp.now at)) }
+fn stage_step(otp: &[u8; 128], at: usize, k: usize) -> Step
+    requires { (at + 8 ≤ 128) × (k < length (stage otp.now at)) }
     ensures { StandsFor otp.now result (λ _ _ _. stage otp.now at) k }
 {
     let turn = k / 4 + 1;
-    let part = k % 4;
-    if part == 0 {
-        return Step::Byte(0x09, otp[at + 5]);
+    match k % 4 {
+        0 => Step::Byte(0x09, otp[at + 5]),
+        1 => Step::Pair(0x51, phase(otp, at + 1, turn), phase(otp, at + 2, turn)),
+        2 => Step::Byte(0x09, otp[at + 6]),
+        _ => Step::Delay(low_seven(otp[at + 7])),
     }
-    if part == 1 {
-        let low = phase(otp, at + 1, turn);
-        let high = phase(otp, at + 2, turn);
-        return Step::Pair(0x51, low, high);
-    }
-    if part == 2 {
-        return Step::Byte(0x09, otp[at + 6]);
-    }
-    Step::Delay(low_seven(otp[at + 7]))
 }
 
 // The step at place k of the soft start and what comes after it. At most four stages are passed, each by one subtraction.
-fn step_from_start(otp: &[u8], k: usize) -> Step
-    requires { length otp.now ≡ 128 }
+fn step_from_start(otp: &[u8; 128], k: usize) -> Step
     ensures { StandsFor otp.now result (λ _ _ _. from_start otp.now) k }
 {
     let mut left = k;
-    let mut at: usize = 0x28;
-    while at < 0x48 {
+    for at in [0x28, 0x30, 0x38, 0x40] {
         let n = stage_length(otp, at);
         if left < n {
             return stage_step(otp, at, left);
         }
         left -= n;
-        at += 8;
     }
     step_after(left)
 }
 
 // The step at place k of an update.
-pub fn step_at(otp: &[u8], k: usize) -> Step
-    requires { length otp.now ≡ 128 }
+pub fn step_at(otp: &[u8; 128], k: usize) -> Step
     ensures { StandsFor otp.now result (things_of otp.now) k }
 {
     if k < 33 {

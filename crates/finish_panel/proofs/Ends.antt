@@ -11,10 +11,10 @@ use lib.ListN.{length, length-append, length-take}
 use Rattle.lists.specs.Rules.{every}
 use Rattle.lists.proofs.Elements.{at_map}
 use Rattle.lists.proofs.Rules.{holds, every_append}
-use Rattle.finish_panel.specs.declared.Answer.{Answer}
-use Rattle.finish_panel.specs.declared.Answer.TheVariants.{Refused, Write, Delay, BusyHigh, Done}
+use Rattle.std.specs.Prelude.{Ok, Err}
+use Rattle.finish_panel.specs.declared.Given.TheVariants.{Write, Delay, BusyHigh, Done}
 use Rattle.finish_order.specs.Order.{Thing, done, otp_byte, otp_bytes, raise, one_repeat, repeats, stage, things_of, thing_at}
-use Rattle.finish_panel.specs.Update.{answer_of, answer_value, room_for_all}
+use Rattle.finish_panel.specs.Update.{Answer, answer_of, answer_value, room_for_all}
 use Rattle.finish_order.specs.Facts.{before_start, after_start, stages_from, from_start}
 use Rattle.finish_order.proofs.Order.{stage-length, in_order_lem}
 
@@ -67,14 +67,14 @@ module _ (test : Thing → Bool) where
 -- ---- done is answered only past the last
 
 abbrev goes_on : Answer → Bool
-goes_on (Refused number) = true
-goes_on (Write n) = true
-goes_on (Delay ms) = true
-goes_on BusyHigh = true
-goes_on Done = false
+goes_on (Ok (Write n)) = true
+goes_on (Ok (Delay ms)) = true
+goes_on (Ok BusyHigh) = true
+goes_on (Ok Done) = false
+goes_on (Err number) = true
 
 pub not_done : (otp : List ℕ) (index : ℕ) (new second : List ℕ) (k : ℕ) → k < length (things_of otp index new second)
-    → answer_of (thing_at (things_of otp index new second) k) ≡ Done → ⊥
+    → answer_of (thing_at (things_of otp index new second) k) ≡ Ok Done → ⊥
 not_done otp index new second k h e =
     false≢true (ap goes_on (sym e) ∙ each_thing (λ thing. goes_on (answer_of thing)) otp (λ at phases. refl) refl index new second refl k h)
 

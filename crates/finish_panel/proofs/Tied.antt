@@ -8,7 +8,7 @@ use lib.IntN.{ℤ}
 use lib.ListN.{length}
 use Rattle.lists.proofs.Calls.{Call, AsksNothing}
 use Rattle.finish_rules.specs.Rules.{normal_good, fast_good, Accepted}
-use Rattle.finish_panel.specs.Update.{normal_things, fast_things, room_for_all, InOrder}
+use Rattle.finish_panel.specs.Update.{answer_given, normal_things, fast_things, room_for_all, InOrder}
 use Rattle.finish_panel.proofs.Whole.{normal_in_order, fast_in_order}
 use Rattle.finish_panel.proofs.normal_update.Kinds as normal-kinds
 use Rattle.finish_panel.proofs.normal_update.Reads as normal-reads
@@ -31,9 +31,9 @@ pub record AsksNormal (otp : List ℕ) (temperature : ℤ) (new : List ℕ) (k :
 pub normal_tied : (otp : List ℕ) (temperature : ℤ) (new : List ℕ) → Accepted otp (normal_good temperature) (length new) (length new)
     → (calls : ℕ → NormalUpdate)
     → ((k : ℕ) → k ≤ length (normal_things otp temperature new) → AsksNormal otp temperature new k (calls k))
-    → InOrder (normal_things otp temperature new) (λ k. (calls k).result) (λ k. (calls k).exit.1.1.1.1.0.now)
+    → InOrder (normal_things otp temperature new) (λ k. answer_given (calls k).result) (λ k. (calls k).exit.1.1.1.1.0.now)
 normal_tied otp temperature new a calls asks =
-    normal_in_order otp temperature new (λ k. (calls k).args.1.1.1.1.0.now) (λ k. (calls k).result)
+    normal_in_order otp temperature new (λ k. (calls k).args.1.1.1.1.0.now) (λ k. answer_given (calls k).result)
     (λ k. (calls k).exit.1.1.1.1.0.now) a
     (λ k h. (asks k h).room)
     (λ k h. rw ((asks k h).otp_is, (asks k h).temperature_is, (asks k h).new_is, (asks k h).count_is) at (calls k).promised)
@@ -54,9 +54,9 @@ pub record AsksFast (otp : List ℕ) (temperature : ℤ) (new shown : List ℕ) 
 pub fast_tied : (otp : List ℕ) (temperature : ℤ) (new shown : List ℕ) → Accepted otp (fast_good temperature) (length new) (length shown)
     → (calls : ℕ → FastUpdate)
     → ((k : ℕ) → k ≤ length (fast_things otp temperature new shown) → AsksFast otp temperature new shown k (calls k))
-    → InOrder (fast_things otp temperature new shown) (λ k. (calls k).result) (λ k. (calls k).exit.1.1.1.1.1.0.now)
+    → InOrder (fast_things otp temperature new shown) (λ k. answer_given (calls k).result) (λ k. (calls k).exit.1.1.1.1.1.0.now)
 fast_tied otp temperature new shown a calls asks =
-    fast_in_order otp temperature new (λ k. (calls k).args.1.1.1.1.1.0.now) (λ k. (calls k).result)
+    fast_in_order otp temperature new (λ k. (calls k).args.1.1.1.1.1.0.now) (λ k. answer_given (calls k).result)
     (λ k. (calls k).exit.1.1.1.1.1.0.now) shown a
     (λ k h. (asks k h).room)
     (λ k h. rw ((asks k h).otp_is, (asks k h).temperature_is, (asks k h).new_is, (asks k h).shown-is, (asks k h).count_is) at (calls k).promised)

@@ -10,11 +10,11 @@ use lib.ListN.{length, replicate, length-replicate, get_or-eq_default}
 use lib.Seq.{take_at}
 use Rattle.lists.specs.Lists.{overlay}
 use Rattle.lists.proofs.Rules.{by_cases}
-use Rattle.finish_panel.specs.declared.Answer.{Answer}
-use Rattle.finish_panel.specs.declared.Answer.TheVariants.{Refused, Done}
+use Rattle.std.specs.Prelude.{Ok, Err}
+use Rattle.finish_panel.specs.declared.Given.TheVariants.{Done}
 use Rattle.finish_order.specs.Order.{Thing, write, delay, busy_high, done, things_of, thing_at}
 use Rattle.finish_rules.specs.Rules.{normal_good, normal_index, fast_good, fast_index, refusals, Accepted}
-use Rattle.finish_panel.specs.Update.{bytes_of, answer_of, answer_number, answer_value, put_out, too_short, give_out, normal_things, fast_things, normal_update, fast_update, room_for_all, InOrder}
+use Rattle.finish_panel.specs.Update.{Answer, bytes_of, answer_of, answer_number, answer_value, put_out, too_short, give_out, normal_things, fast_things, normal_update, fast_update, room_for_all, InOrder}
 use Rattle.finish_rules.proofs.Rules.{picture_size, none_refused}
 use Rattle.finish_panel.proofs.Update.{put, give}
 use Rattle.finish_panel.proofs.Ends.{not_done, small}
@@ -60,7 +60,7 @@ module _ (otp : List ℕ) (index : ℕ) (new second : List ℕ) (good : Bool) (s
     at_count k h =
         called k (omega arith) ∙ gave (thing_at things k) (out k) (omega (arith, within k h, room k (omega arith)))
 
-    past_end : answer (length things) ≡ Done
+    past_end : answer (length things) ≡ Ok Done
     past_end =
         let n : ℕ = length things in
         let e : thing_at things n ≡ done = get_or-eq_default things done (omega arith) in
@@ -98,20 +98,14 @@ module _ (otp : List ℕ) (temperature : ℤ) (new : List ℕ) (out : ℕ → Li
 
 -- ---- a refusal leaves the output
 
-given_number : (thing : Thing) → answer_number (answer_of thing) ≡ 0
-given_number (write register bytes) = refl
-given_number (delay ms) = refl
-given_number busy_high = refl
-given_number done = refl
-
 pub refused_same : (otp : List ℕ) (good : Bool) (new shown : ℕ) (thing : Thing) (out : List ℕ)
     → let left = give_out (refusals otp good new shown) thing out in (answer_number left.0 ≡ 0 → ⊥) → left.1 ≡ out
 unfolding give_out
 refused_same otp good new shown thing out =
     by_cases (λ (left : Answer × List ℕ). (answer_number left.0 ≡ 0 → ⊥) → left.1 ≡ out)
     (refusals otp good new shown ++ too_short thing out)
-    (λ n. (Refused n, out))
+    (λ n. (Err n, out))
     (answer_of thing, overlay (bytes_of thing) out)
     refl
     (λ n _ _. refl)
-    (λ _ h. absurd (h (given_number thing)))
+    (λ _ h. absurd (h refl))

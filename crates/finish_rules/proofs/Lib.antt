@@ -1,3 +1,2 @@
--- `Rules` has the refusals, `Temperature` the signed numbers.
-pub mod Temperature
+-- `Rules` has inputs that are accepted.
 pub mod Rules

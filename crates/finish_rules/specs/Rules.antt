@@ -1,9 +1,11 @@
 -- Change request 2026-04: what an update is refused for at every count, and a temperature's index.
 -- Assumes nothing.
-use Rattle.std.specs.Prelude.{◌≡◌, Bool, true, not, ◌&&◌, ◌||◌, List, [], ◌∷◌, map, ℕ, ◌+◌, max, eqb, leb, ℤ, pos, neg_ℤ, nat_abs, ◌+ℤ◌, length}
+use Rattle.std.specs.Prelude.{◌≡◌, Bool, true, cond, not, Option, Some, None, ◌&&◌, ◌||◌, List, [], ◌∷◌, map, ℕ, ◌+◌, max, eqb, leb, ℤ, pos, neg_ℤ, nat_abs, ◌+ℤ◌, length}
 use Rattle.std.specs.Int.Signed.{le_z}
 use Rattle.lists.specs.Rules.{every, Case, case}
 use Rattle.finish_order.specs.Order.{otp_length, otp_byte}
+use Rattle.finish_rules.specs.declared.Mode.{Mode}
+use Rattle.finish_rules.specs.declared.Mode.TheVariants.{Normal, Fast}
 
 -- ---- the temperature
 
@@ -24,6 +26,18 @@ fast_good = between (pos 0) (pos 50)
 
 abbrev pub fast_index : (temperature : ℤ) → ℕ
 fast_index temperature = nat_abs (pos 0xA8 +ℤ temperature)
+
+-- whether a mode takes a temperature, and its index there
+abbrev pub good_in : Mode → (temperature : ℤ) → Bool
+good_in Normal = normal_good
+good_in Fast = fast_good
+
+abbrev pub index_in : Mode → (temperature : ℤ) → ℕ
+index_in Normal = normal_index
+index_in Fast = fast_index
+
+abbrev pub index_of : Mode → (temperature : ℤ) → Option ℕ
+index_of mode temperature = cond (good_in mode temperature) (Some (index_in mode temperature)) None
 
 -- ---- the refusals
 

@@ -3,15 +3,17 @@
 use mathlib.Core.Path.{◌≡◌, refl, sym, ap, ap₂, ◌∙◌}
 use mathlib.Core.Bool.{Bool, true}
 use mathlib.Core.List.{List, [], ◌∷◌, ◌++◌}
-use Prim.Native.Nat.{ℕ, suc, ◌+◌, ◌*◌, ◌/◌, ◌%◌, ◌≤◌, ◌<◌}
+use Prim.Native.Nat.{ℕ, zero, suc, ◌+◌, ◌*◌, ◌/◌, ◌%◌, ◌≤◌, ◌<◌}
 use native.Mathlib.Nat.{zero-add}
 use native.Mathlib.Numerals.{add-one}
 use native.Mathlib.Omega.{arith}
 use borrow.Author.Tests.{eqb-true}
 use lib.Bits.{bit_and, bit_or, bit_xor, or_shifted_r, and_high, xor_block, xor_shr, xor_mod, xor_lt, xor_comm, xor_zero_r, or_mod}
 use lib.Dec.{eqb}
-use lib.ListN.{length, get_or, drop, drop_of_length-le}
-use lib.Seq.{drop-cons}
+use lib.ListN.{length, get_or, take, drop, drop_of_length-le}
+use lib.Seq.{drop-cons, get_or-take, get_or-drop}
+use Rattle.std.proofs.lemmas.List.{drop-drop}
+use Rattle.std.specs.Simd.{first_chunks}
 use Rattle.lists.specs.Rules.{all_below}
 use Rattle.lists.proofs.Lists.{get_or-tabulate, is-tabulate}
 use Rattle.lists.proofs.Rules.{below_all}
@@ -274,6 +276,35 @@ module _ (bytes : List ℕ) (i acc : ℕ) {next : ℕ} where
       let d : drop i bytes ≡ get_or bytes i 0 ∷ [] =
       drop-cons bytes i 0 h ∙ ap (λ (r : List ℕ). get_or bytes i 0 ∷ r) (drop_of_length-le bytes {i = suc i} (omega arith)) in
       rw (e, d)
+
+-- the pairs of the bytes, in order
+pair_at : (n : ℕ) (bytes : List ℕ) (i : ℕ) (d : List ℕ) → i < n → get_or (first_chunks 2 n bytes) i d ≡ take 2 (drop (2 * i) bytes)
+pair_at zero bytes i d h = absurd (omega arith)
+pair_at (suc n) bytes zero d h = refl
+pair_at (suc n) bytes (suc i) d h =
+    let e : 2 + 2 * i ≡ 2 * suc i = omega arith in
+    pair_at n (drop 2 bytes) i d (omega arith) ∙ ap (take 2) (drop-drop (2 * i) 2 bytes) ∙ ap (λ (k : ℕ). take 2 (drop k bytes)) e
+
+pub table_pair : (bytes : List ℕ) (i acc : ℕ) {next : ℕ} (d : List ℕ) → i < length bytes / 2
+    → (let pair = get_or (first_chunks 2 (length bytes / 2) bytes) i d in next ≡ table_add_two (get_or pair 0 0) (get_or pair 1 0) acc)
+    → table_checksum next (drop (2 * (i + 1)) bytes) ≡ table_checksum acc (drop (2 * i) bytes)
+table_pair bytes i acc {next} d h e =
+    let pair : get_or (first_chunks 2 (length bytes / 2) bytes) i d ≡ take 2 (drop (2 * i) bytes) = pair_at (length bytes / 2) bytes i d h in
+    let at : (j : ℕ) → j < 2 → get_or (take 2 (drop (2 * i) bytes)) j 0 ≡ get_or bytes (2 * i + j) 0 =
+    λ j l. get_or-take 2 (drop (2 * i) bytes) j 0 l ∙ get_or-drop (2 * i) bytes j 0 in
+    let k : 2 * i + 0 ≡ 2 * i = omega arith in
+    let m : 2 * (i + 1) ≡ 2 * i + 2 = omega arith in
+    let is : next ≡ table_add_two (get_or bytes (2 * i) 0) (get_or bytes (2 * i + 1) 0) acc =
+    rw (pair, at 0 (omega arith), at 1 (omega arith), k) at e in
+    rw m (table_next bytes (2 * i) acc (omega arith) is)
+
+pub table_odd : (bytes last : List ℕ) (i acc : ℕ) {next : ℕ} → i ≡ length bytes / 2 → last ≡ drop (length bytes / 2 * 2) bytes
+    → length bytes % 2 ≡ 1 → next ≡ table_add (get_or last 0 0) acc → next ≡ table_checksum acc (drop (2 * i) bytes)
+table_odd bytes last i acc half e odd is =
+    let k : length bytes / 2 * 2 + 0 ≡ 2 * i = omega arith in
+    let byte : get_or last 0 0 ≡ get_or bytes (2 * i) 0 =
+    ap (λ (l : List ℕ). get_or l 0 0) e ∙ get_or-drop (length bytes / 2 * 2) bytes 0 0 ∙ ap (λ (n : ℕ). get_or bytes n 0) k in
+    table_last bytes (2 * i) acc (omega arith) (omega arith) (rw byte at is)
 
 pub table_end : (bytes : List ℕ) (i acc : ℕ) → length bytes ≤ i → acc ≡ table_checksum acc (drop i bytes)
 table_end bytes i acc h = rw (drop_of_length-le bytes h)

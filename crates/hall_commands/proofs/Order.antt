@@ -13,10 +13,9 @@ use Rattle.lists.specs.Lists.{overlay_at}
 use Rattle.lists.proofs.Lists.{overlay_at_none, length-overlay_at, overlay_at_next}
 use Rattle.lists.proofs.Rules.{none, keep, all_kept}
 use Rattle.hall_commands.specs.Commands.{command}
-use Rattle.hall_commands.specs.Reading.{reader_at, reply, is_upload, reading}
+use Rattle.hall_commands.specs.Reading.{Reply, reader_at, reply, is_upload, reading}
 use Rattle.hall_commands.specs.Order.{joined, read_next, read_in_order}
 use Rattle.hall_commands.specs.declared.Reader.{Reader}
-use Rattle.hall_commands.specs.declared.Reply.{Reply}
 
 -- ---- parts in order
 

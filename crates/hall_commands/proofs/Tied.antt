@@ -3,7 +3,7 @@
 -- Assumes nothing.
 use mathlib.Core.Path.{◌≡◌, refl, ap, ◌∙◌}
 use mathlib.Core.List.{List}
-use Prim.Native.Nat.{ℕ, zero, suc, ◌+◌, ◌≤◌, ◌<◌}
+use Prim.Native.Nat.{ℕ, zero, suc, ◌≤◌, ◌<◌}
 use native.Mathlib.Nat.{zero-add}
 use native.Mathlib.Omega.{arith}
 use borrow.Author.Tests.{eq-eqb}
@@ -11,10 +11,9 @@ use lib.ListN.{length}
 use Rattle.lists.specs.Lists.{overlay}
 use Rattle.lists.proofs.Calls.{Call, AsksNothing}
 use Rattle.hall_commands.specs.Commands.{command}
-use Rattle.hall_commands.specs.Reading.{reader_at, reply}
+use Rattle.hall_commands.specs.Reading.{Reply, reader_at, reply, reply_of}
 use Rattle.hall_commands.specs.Order.{joined, read_in_order}
 use Rattle.hall_commands.specs.declared.Reader.{Reader}
-use Rattle.hall_commands.specs.declared.Reply.{Reply}
 use Rattle.hall_commands.proofs.Order.{not-refused, read_joined}
 use Rattle.hall_commands.proofs.Reader.new.Kinds as new-kinds
 use Rattle.hall_commands.proofs.Reader.new.Reads as new-reads
@@ -26,16 +25,17 @@ use Rattle.hall_commands.proofs.Reader.read.Reads as read-reads
 -- ---- reading
 
 abbrev pub ReadCall : Type 0
-ReadCall = Call 2 read-kinds.ps read-kinds.r read-reads.Learnt
+ReadCall = Call 3 read-kinds.ps read-kinds.r read-reads.Learnt
 
 -- what stands after n readings
 abbrev pub read_so_far : Reader → List ℕ → (ℕ → ReadCall) → ℕ → Reply × List ℕ
 read_so_far reader memory reads zero = (reply 0 reader, memory)
-read_so_far reader memory reads (suc k) = ((reads k).result, (reads k).exit.1.1.0.now)
+read_so_far reader memory reads (suc k) =
+    (reply_of (reads k).exit.0.now (reads k).result, (reads k).exit.1.1.0.now)
 
 -- a reading goes on from what the one before it left
 pub record Reads (before : Reply × List ℕ) (command : List ℕ) (c : ReadCall) : Type 0 where
-  pub reader_is : c.args.0 ≡ before.0.reader
+  pub reader_is : c.args.0.now ≡ before.0.reader
   pub command-is : c.args.1.0.now ≡ command
   pub memory-is : c.args.1.1.0.now ≡ before.1
 
@@ -92,7 +92,7 @@ module _ (slot : ℕ) (small : slot ≤ 255) (n : ℕ) (part : ℕ → List ℕ)
 pub record AskNothing : Type 0 where
   pub new_reader : AsksNothing 0 new-kinds.ps new-reads.Asked
   pub reset_reader : AsksNothing 0 reset-kinds.ps reset-reads.Asked
-  pub read_command : AsksNothing 2 read-kinds.ps read-reads.Asked
+  pub read_command : AsksNothing 3 read-kinds.ps read-reads.Asked
 
 pub asks_nothing : AskNothing
 asks_nothing =

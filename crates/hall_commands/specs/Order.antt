@@ -1,9 +1,8 @@
 -- Parts joined in order, and commands read in order.
 -- Assumes nothing.
 use Rattle.std.specs.Prelude.{ℕ, zero, suc, cond, List, [], ◌++◌, eqb}
-use Rattle.hall_commands.specs.Reading.{reply, reading}
+use Rattle.hall_commands.specs.Reading.{Reply, reply, reading}
 use Rattle.hall_commands.specs.declared.Reader.{Reader}
-use Rattle.hall_commands.specs.declared.Reply.{Reply}
 
 -- part 0, part 1, .., part (n - 1), each after the one before
 abbrev pub joined : (n : ℕ) (part : ℕ → List ℕ) → List ℕ

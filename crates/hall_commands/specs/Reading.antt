@@ -1,17 +1,27 @@
 -- Change request 2026-12: commands read back into a slot, at the reader's data pointer.
 -- Assumes nothing.
-use Rattle.std.specs.Prelude.{ℕ, ◌+◌, Bool, not, List, [], ◌∷◌, eqb, leb, ltb, length, get_or}
+use Rattle.std.specs.Prelude.{ℕ, ◌+◌, Bool, not, List, [], ◌∷◌, eqb, leb, ltb, length, get_or, Result}
 use Rattle.lists.specs.Lists.{overlay_at}
 use Rattle.lists.specs.Rules.{every, Case, case, first_of}
 use Rattle.hall_commands.specs.Commands.{data_max, data_in}
+use Rattle.refusal.specs.Numbers.{number_given}
+use Rattle.refusal.specs.declared.Refusal.{Refusal}
 use Rattle.hall_commands.specs.declared.Reader.{Reader}
-use Rattle.hall_commands.specs.declared.Reply.{Reply}
 
 abbrev pub reader_at : (slot at : ℕ) → Reader
 reader_at slot at = record { slot = slot; at = at }
 
+-- what a reading gives back: the number of the refusal or 0, and the reader after it
+pub record Reply : Type 0 where
+  pub number : ℕ
+  pub reader : Reader
+
 abbrev pub reply : (number : ℕ) → Reader → Reply
 reply number reader = record { number = number; reader = reader }
+
+-- the same, from what the call answers and the reader that it leaves
+abbrev pub reply_of : (after : Reader) → Result (Unit {0}) Refusal → Reply
+reply_of after outcome = reply (number_given outcome) after
 
 -- 20 01, the slot, a length of 1 to 251, and that many bytes
 abbrev pub upload_tests : (slot : ℕ) (command : List ℕ) → List Bool

@@ -1,76 +1,29 @@
 // The hall display's upload commands, read back into a slot.
 #![tactic(auto)]
 
-ghost use Rattle.std.specs.Prelude.{◌≡◌, ◌≤◌, length, take};
-ghost use Rattle.lists.specs.Rules.{every, first_of};
-ghost use Rattle.hall_commands.specs.Reading.{reader_at, upload_tests, is_upload, read_cases, reading};
+ghost use Rattle.std.specs.Prelude.{◌≡◌};
+ghost use Rattle.hall_commands.specs.Reading.{reader_at, reply_of, is_upload, reading};
 
-// A reader of one slot, with its data pointer.
-#[derive(Clone, Copy)]
+use refusal::Refusal;
+
+// A reader of one slot, with its data pointer. The slot is any number: reading refuses one above 255.
+#[derive(Clone, Copy, Debug, PartialEq, Eq)]
 pub struct Reader {
     pub slot: u32,
     pub at: usize,
 }
 
-// What reading a command gives back: a number, and the next reader.
-#[derive(Clone, Copy)]
-pub struct Reply {
-    pub number: u8,
-    pub reader: Reader,
-}
-
-// Whether a command of at least four bytes begins 20 01 and the slot.
-fn is_upload_to(slot: u32, command: &[u8]) -> bool
-    requires { 4 ≤ length command.now }
-    ensures { result ≡ every (take 3 (upload_tests slot command.now)) }
-{
-    if command[0] != 0x20 {
-        return false;
-    }
-    if command[1] != 0x01 {
-        return false;
-    }
-    command[2] as u32 == slot
-}
-
-// Whether a command uploads data to a slot.
+// Whether a command uploads data to a slot. Its bytes are read by index: with a slice pattern the proof has no facts on them.
+#[tactic(auto, unfolding(crate::specs::Reading::is_upload))]
 fn is_upload(slot: u32, command: &[u8]) -> bool
     ensures { result ≡ is_upload slot command.now }
 {
-    if command.len() < 4 {
-        return false;
-    }
-    if !is_upload_to(slot, command) {
-        return false;
-    }
-    let n = command[3] as usize;
-    if n < 1 {
-        return false;
-    }
-    if 251 < n {
-        return false;
-    }
-    command.len() == 4 + n
-}
-
-// The number of the first refusal of a reading, or 0.
-fn read_number(slot: u32, at: usize, command: &[u8], memory_len: usize) -> u8
-    ensures { result ≡ first_of (read_cases (reader_at slot «at») command.now memory_len) (λ n. n) 0 }
-{
-    if 255 < slot {
-        return 26;
-    }
-    if !is_upload(slot, command) {
-        return 27;
-    }
-    let n = command.len() - 4;
-    if memory_len < at {
-        return 28;
-    }
-    if memory_len - at < n {
-        return 28;
-    }
-    0
+    command.len() >= 4
+        && command[0] == 0x20
+        && command[1] == 0x01
+        && u32::from(command[2]) == slot
+        && (1..=251).contains(&command[3])
+        && command.len() == 4 + usize::from(command[3])
 }
 
 impl Reader {
@@ -85,28 +38,26 @@ impl Reader {
     pub fn reset(self) -> Self
         ensures { result ≡ reader_at self.slot 0 }
     {
-        let slot = self.slot;
-        Self { slot, at: 0 }
+        Self { at: 0, ..self }
     }
 
-    // Reads the data of a command into the lent slot, at the pointer, which moves past it.
-    pub fn read(self, command: &[u8], memory: &mut [u8]) -> Reply
-        ensures { (result, memory.new) ≡ reading self command.now memory.old }
+    // Reads the data of a command into the lent slot, at the pointer, which moves past it. A refusal leaves both.
+    pub fn read(&mut self, command: &[u8], memory: &mut [u8]) -> Result<(), Refusal>
+        ensures { (reply_of self.new result, memory.new)
+            ≡ reading self.old command.now memory.old }
     {
-        let slot = self.slot;
-        let at = self.at;
-        let number = read_number(slot, at, command, memory.len());
-        if number != 0 {
-            return Reply {
-                number,
-                reader: Reader { slot, at },
-            };
+        if self.slot > 255 {
+            return Err(Refusal::DisplaySlot);
         }
-        let n = command.len() - 4;
-        lists::put_at(memory, at, &command[4..]);
-        Reply {
-            number: 0,
-            reader: Reader { slot, at: at + n },
+        if !is_upload(self.slot, command) {
+            return Err(Refusal::Command);
         }
+        let data = &command[4..];
+        if memory.len() < self.at || memory.len() - self.at < data.len() {
+            return Err(Refusal::Data);
+        }
+        lists::put_at(memory, self.at, data);
+        self.at += data.len();
+        Ok(())
     }
 }

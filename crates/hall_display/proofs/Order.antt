@@ -15,10 +15,8 @@ use Rattle.hall_commands.specs.Reading.{reader_at, reply}
 use Rattle.hall_commands.specs.Order.{joined, read_in_order}
 use Rattle.hall_commands.proofs.Order.{joined_cong, read_cong, read_joined}
 use Rattle.hall_display.specs.Panels.{is_display, image_bytes}
-use Rattle.hall_display.specs.Upload.{put_out, upload_bytes, giving, uploading}
+use Rattle.hall_display.specs.Upload.{Answer, Command, NoMore, put_out, upload_bytes, giving, uploading}
 use Rattle.hall_display.specs.Order.{image_commands, Uploaded}
-use Rattle.hall_display.specs.declared.Answer.{Answer}
-use Rattle.hall_display.specs.declared.Answer.TheVariants.{Command, NoMore}
 use Rattle.hall_display.proofs.Commands.{upload_length, data_full, data_some, data_none, data_most}
 
 -- ---- bytes cut into data, over any bytes

@@ -1,44 +1,42 @@
 -- Laws of the two panels and their header.
 -- Assumes nothing.
 use mathlib.Core.Path.{◌≡◌, refl}
-use mathlib.Core.Bool.{true}
-use mathlib.Core.Logic.{⊎_elim}
-use Prim.Native.Nat.{ℕ, ◌*◌, ◌/◌, ◌≤◌}
-use native.Mathlib.Nat.{mul-le-mul}
-use native.Mathlib.Omega.{arith}
-use borrow.Author.Tests.{eqb-true}
-use lib.Dec.{eqb}
+use mathlib.Core.Bool.{true, false, and-false}
+use Prim.Native.Nat.{ℕ}
 use lib.ListN.{length}
-use Rattle.lists.proofs.Rules.{and_left, and_right, either}
-use Rattle.hall_display.specs.Panels.{is_panel, is_display, header}
+use Rattle.hall_display.specs.Panels.{is_panel, is_depth, is_display, header}
+use Rattle.hall_display.specs.Displays.{panel_code, depth_bits, Shows}
+use Rattle.hall_display.specs.declared.Panel.{Panel}
+use Rattle.hall_display.specs.declared.Panel.TheVariants.{Inch133, Inch312}
+use Rattle.hall_display.specs.declared.Depth.{Depth}
+use Rattle.hall_display.specs.declared.Depth.TheVariants.{One, Two}
+use Rattle.hall_display.specs.declared.Display.{Display}
 
--- ---- what an accepted panel and depth are
+-- ---- what is a display
 
-module _ (panel depth : ℕ) (good : is_display panel depth ≡ true) where
-  pub panel-small : panel ≤ 0x3F
+module _ (panel depth : ℕ) where
+  pub no_panel : is_panel panel ≡ false → is_display panel depth ≡ false
   unfolding is_display
-  panel-small =
-      ⊎_elim (λ e. omega (arith, eqb-true panel 0x3E e)) (λ e. omega (arith, eqb-true panel 0x3F e))
-      (either (eqb panel 0x3E) (eqb panel 0x3F) (and_left (is_panel panel) _ good))
+  no_panel e = rw e
 
-  pub depth_small : depth ≤ 2
+  pub no_depth : is_depth depth ≡ false → is_display panel depth ≡ false
   unfolding is_display
-  depth_small =
-      ⊎_elim (λ e. omega (arith, eqb-true depth 1 e)) (λ e. omega (arith, eqb-true depth 2 e))
-      (either (eqb depth 1) (eqb depth 2) (and_right (is_panel panel) _ good))
+  no_depth e = rw (e, and-false (is_panel panel))
+
+  pub shown : (display : Display) → Shows panel depth display → is_display panel depth ≡ true
+  unfolding is_display
+  shown display s = rw (← s.panel-is, ← s.depth_is, each_panel display.panel, each_depth display.depth)
+    where
+      each_panel : (p : Panel) → is_panel (panel_code p) ≡ true
+      each_panel Inch133 = refl
+      each_panel Inch312 = refl
+
+      each_depth : (d : Depth) → is_depth (depth_bits d) ≡ true
+      each_depth One = refl
+      each_depth Two = refl
 
 -- ---- the header
 
 pub header-length : (panel depth : ℕ) → length (header panel depth) ≡ 16
 unfolding header
 header-length panel depth = refl
-
--- ---- the image
-
-pub dots_fit : (x y : ℕ) → x ≤ 1600 → y ≤ 2560 → x * y ≤ 4096000
-dots_fit x y p q = mul-le-mul p q
-
-pub image_fit : (x y depth : ℕ) → x ≤ 1600 → y ≤ 2560 → depth ≤ 2 → x * y / 8 * depth ≤ 1024000
-image_fit x y depth p q r =
-    let h : x * y / 8 ≤ 512000 = omega (arith, dots_fit x y p q) in
-    mul-le-mul h r

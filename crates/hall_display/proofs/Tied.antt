@@ -1,24 +1,23 @@
 -- A whole upload once more, over calls that keep the contracts as the checker makes them from the source. A contract that
 -- is weakened in src/ is refused here, even where every function is still proved.
 -- Assumes nothing.
-use mathlib.Core.Path.{◌≡◌, sym, ap, ◌∙◌}
+use mathlib.Core.Path.{◌≡◌, ap, ◌∙◌}
 use mathlib.Core.Bool.{true}
 use mathlib.Core.List.{List, ◌++◌}
-use Prim.Native.Nat.{ℕ, ◌+◌, ◌≤◌, ◌<◌}
+use Prim.Native.Nat.{ℕ, ◌+◌, ◌≤◌}
 use lib.ListN.{length, take}
 use lib.Seq.{take_at}
 use Rattle.lists.specs.Lists.{overlay}
 use Rattle.lists.proofs.Calls.{Call, AsksNothing}
 use Rattle.hall_commands.specs.Commands.{data_in}
-use Rattle.hall_commands.specs.Reading.{reader_at, reply}
+use Rattle.hall_commands.specs.Reading.{Reply, reader_at, reply}
 use Rattle.hall_commands.specs.Order.{joined}
 use Rattle.hall_commands.specs.declared.Reader.{Reader}
-use Rattle.hall_commands.specs.declared.Reply.{Reply}
+use Rattle.std.proofs.Common.{Ok}
 use Rattle.hall_commands.proofs.Tied.{ReadCall, read_so_far, InOrder, read_tied, NewCall, ResetCall}
 use Rattle.hall_display.specs.Panels.{is_display, image_bytes, header}
-use Rattle.hall_display.specs.Upload.{put_out}
+use Rattle.hall_display.specs.Upload.{put_out, answer_of}
 use Rattle.hall_display.specs.Order.{image_commands, Uploaded}
-use Rattle.hall_display.specs.declared.Header.{Header}
 use Rattle.hall_display.proofs.Panels.{header-length}
 use Rattle.hall_display.proofs.Upload.{made_bytes}
 use Rattle.hall_display.proofs.Order.{uploaded}
@@ -41,7 +40,7 @@ module _ (c : UploadCall) where
 
   -- the command that was put out
   abbrev pub command_of : List ℕ
-  command_of = put_out c.result after_of
+  command_of = put_out (answer_of c.result) after_of
 
 -- a call for the command of one number, with room for every command
 pub record Asks (panel depth : ℕ) (image : List ℕ) (slot number : ℕ) (c : UploadCall) : Type 0 where
@@ -55,9 +54,9 @@ pub record Asks (panel depth : ℕ) (image : List ℕ) (slot number : ℕ) (c : 
 pub upload_tied : (panel depth : ℕ) (image : List ℕ) (slot : ℕ) → is_display panel depth ≡ true → length image ≡ image_bytes panel depth
     → slot ≤ 255 → (last : ℕ) → image_commands image ≤ last → (calls : ℕ → UploadCall)
     → ((k : ℕ) → k ≤ last → Asks panel depth image slot k (calls k))
-    → Uploaded panel depth image slot last (λ k. out_of (calls k)) (λ k. (calls k).result) (λ k. after_of (calls k))
+    → Uploaded panel depth image slot last (λ k. out_of (calls k)) (λ k. answer_of (calls k).result) (λ k. after_of (calls k))
 upload_tied panel depth image slot good exact small last enough calls asks =
-    uploaded panel depth image slot good exact small last enough (λ k. out_of (calls k)) (λ k l. (asks k l).room) (λ k. (calls k).result)
+    uploaded panel depth image slot good exact small last enough (λ k. out_of (calls k)) (λ k l. (asks k l).room) (λ k. answer_of (calls k).result)
     (λ k. after_of (calls k))
     (λ k l.
     let a = asks k l in
@@ -78,13 +77,12 @@ module _ (panel depth : ℕ) (image : List ℕ) (slot : ℕ) (good : is_display 
 
   -- the header that is made stands first in the data of the commands
   pub header_tied : (c : HeaderCall) → c.args.0 ≡ panel → c.args.1.0 ≡ depth
-      → take 16 (joined (image_commands image) (λ k. data_in (given k))) ≡ c.result.bytes
+      → c.result ≡ Ok (take 16 (joined (image_commands image) (λ k. data_in (given k))))
   header_tied c panel-is depth_is =
-      let e : c.result.bytes ≡ header panel depth =
-      ap (λ (h : Header). h.bytes) (rw (panel-is, depth_is) at c.promised) ∙ made_bytes panel depth good in
+      let first : take 16 (joined (image_commands image) (λ k. data_in (given k))) ≡ header panel depth =
       ap (take 16) (upload_tied panel depth image slot good exact small last enough calls asks).whole
-      ∙ take_at (header panel depth) image 16 (header-length panel depth)
-      ∙ sym e
+      ∙ take_at (header panel depth) image 16 (header-length panel depth) in
+      rw first (rw (panel-is, depth_is) at c.promised ∙ made_bytes panel depth good)
 
   module _ (memory : List ℕ) (fits : 16 + length image ≤ length memory) (reads : ℕ → ReadCall) where
     -- header and image at the front of the slot, the rest as it was, and the pointer after them

@@ -5,55 +5,66 @@ use mathlib.Core.Bool.{true, false}
 use mathlib.Core.List.{List, [], ◌∷◌}
 use Prim.Native.Nat.{ℕ, ◌+◌, ◌-◌, ◌*◌, ◌≤◌, ◌<◌, min}
 use native.Mathlib.Omega.{arith}
-use borrow.Author.Tests.{not-false, ltb-false, eq-eqb, ne_eqb, lt-ltb, le-ltb}
-use lib.ListN.{length, replicate}
+use borrow.Author.Tests.{eq-eqb, ne_eqb, lt-ltb, le-ltb}
+use lib.ListN.{length}
 use Rattle.lists.specs.Lists.{overlay, overlay_at}
 use Rattle.lists.specs.Rules.{first_of}
-use Rattle.lists.proofs.Rules.{None, past, taken, some_number, none_of}
+use Rattle.lists.proofs.Rules.{None, taken, some_number, none_of}
 use Rattle.lists.proofs.Parts.{overlay_two}
 use Rattle.hall_commands.specs.Commands.{data_of, command}
-use Rattle.hall_display.specs.Panels.{is_display, header}
-use Rattle.hall_display.specs.Upload.{make_header, upload_cases, upload_bytes, giving, uploading}
-use Rattle.hall_display.specs.declared.Answer.TheVariants.{Refused, Command, NoMore}
+use Rattle.hall_display.specs.Panels.{is_display, image_bytes, header}
+use Rattle.hall_display.specs.Displays.{panel_code, depth_bits, Shows}
+use Rattle.hall_display.specs.declared.Display.{Display}
+use Rattle.refusal.specs.declared.Refusal.{Refusal}
+use Rattle.refusal.specs.declared.Refusal.TheVariants as refusals
+use Rattle.refusal.specs.Numbers.{number_of}
+use Rattle.refusal.proofs.Numbers.{number_some}
+use Rattle.std.proofs.Common.{Ok, Err}
+use Rattle.hall_display.proofs.Panels.{shown}
+use Rattle.hall_display.specs.Upload.{Refused, Command, NoMore, make_header, upload_cases, upload_bytes, giving, uploading}
 use Rattle.hall_display.proofs.Commands.{data_length_lem}
 
-pub made_refused : (panel depth : ℕ) → is_display panel depth ≡ false → record { number = 24; bytes = replicate 16 0 } ≡ make_header panel depth
-unfolding make_header
-made_refused panel depth bad = rw bad
+-- ---- the header
 
-pub made_given : (panel depth : ℕ) {bytes : List ℕ} → is_display panel depth ≡ true → bytes ≡ header panel depth
-    → record { number = 0; bytes = bytes } ≡ make_header panel depth
-unfolding make_header
-made_given panel depth good e = rw (good, e)
+module _ (panel depth : ℕ) where
+  pub made_refused : is_display panel depth ≡ false → Err refusals.Display ≡ make_header panel depth
+  unfolding make_header
+  made_refused bad = rw bad
 
-pub made_bytes : (panel depth : ℕ) → is_display panel depth ≡ true → (make_header panel depth).bytes ≡ header panel depth
-unfolding make_header
-made_bytes panel depth good = rw good
+  pub made_bytes : is_display panel depth ≡ true → make_header panel depth ≡ Ok (header panel depth)
+  unfolding make_header
+  made_bytes good = rw good
+
+-- ---- the refusals
+
+module _ (panel depth len slot : ℕ) (display : Display) (shows : Shows panel depth display) {n : ℕ}
+    (is : n ≡ image_bytes (panel_code display.panel) (depth_bits display.depth)) where
+  fits : n ≡ image_bytes panel depth
+  fits = rw (shows.panel-is, shows.depth_is) at is
+
+  pub wrong_image : (len ≡ n → ⊥) → 25 ≡ first_of (upload_cases panel depth len slot) (λ n. n) 0
+  wrong_image d = rw (shown panel depth display shows, ← fits, ne_eqb len n d)
+
+  pub large_slot : len ≡ n → 255 < slot → 26 ≡ first_of (upload_cases panel depth len slot) (λ n. n) 0
+  large_slot e h = rw (shown panel depth display shows, ← fits, eq-eqb len n e, lt-ltb 255 slot h)
+
+  pub no_refusal : len ≡ n → slot ≤ 255 → 0 ≡ first_of (upload_cases panel depth len slot) (λ n. n) 0
+  no_refusal e h = rw (shown panel depth display shows, ← fits, eq-eqb len n e, le-ltb 255 slot h)
 
 -- ---- a command
 
-module _ (panel depth : ℕ) (image : List ℕ) (slot number : ℕ) (out : List ℕ) {r : ℕ}
-    (is : r ≡ first_of (upload_cases panel depth (length image) slot) (λ n. n) 0) where
-  pub upload_refused : (r ≡ 0 → ⊥) → (Refused r, out) ≡ uploading panel depth image slot number out
+module _ (panel depth : ℕ) (image : List ℕ) (slot number : ℕ) (out : List ℕ) where
+  pub upload_refused : (e : Refusal) → number_of e ≡ first_of (upload_cases panel depth (length image) slot) (λ n. n) 0
+      → (Refused (number_of e), out) ≡ uploading panel depth image slot number out
   unfolding uploading
-  upload_refused d =
+  upload_refused e is =
+      let some : 0 < number_of e = number_some e in
       some_number (upload_cases panel depth (length image) slot) (λ n. (Refused n, out))
-      (giving slot (data_of number (upload_bytes panel depth image)) out) is d
+      (giving slot (data_of number (upload_bytes panel depth image)) out) is (λ z. omega arith)
 
-  module _ (z : r ≡ 0) where
+  module _ (is : 0 ≡ first_of (upload_cases panel depth (length image) slot) (λ n. n) 0) where
     free : None (upload_cases panel depth (length image) slot)
-    free = none_of (upload_cases panel depth (length image) slot) refl is z
-
-    -- what the refusals leave
-    pub display_good : is_display panel depth ≡ true
-    display_good = good free where
-      good : None (upload_cases panel depth (length image) slot) → is_display panel depth ≡ true
-      good (past e rest) = not-false (is_display panel depth) e
-
-    pub slot_small : slot ≤ 255
-    slot_small = small free where
-      small : None (upload_cases panel depth (length image) slot) → slot ≤ 255
-      small (past e (past f (past g rest))) = ltb-false 255 slot g
+    free = none_of (upload_cases panel depth (length image) slot) refl is refl
 
     given : giving slot (data_of number (upload_bytes panel depth image)) out ≡ uploading panel depth image slot number out
     unfolding uploading

@@ -6,9 +6,7 @@ use Rattle.hall_commands.specs.Commands.{data_in, command_count}
 use Rattle.hall_commands.specs.Reading.{reader_at, reply}
 use Rattle.hall_commands.specs.Order.{joined, read_in_order}
 use Rattle.hall_display.specs.Panels.{header}
-use Rattle.hall_display.specs.Upload.{put_out}
-use Rattle.hall_display.specs.declared.Answer.{Answer}
-use Rattle.hall_display.specs.declared.Answer.TheVariants.{Command, NoMore}
+use Rattle.hall_display.specs.Upload.{Answer, Command, NoMore, put_out}
 
 -- how many commands an image makes
 abbrev pub image_commands : (image : List ℕ) → ℕ

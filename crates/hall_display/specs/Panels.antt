@@ -6,9 +6,13 @@ use Rattle.std.specs.Prelude.{ℕ, ◌*◌, ◌/◌, ◌%◌, Bool, cond, ◌&&�
 abbrev pub is_panel : (code : ℕ) → Bool
 is_panel code = eqb code 0x3E || eqb code 0x3F
 
--- such a panel, at 1 or 2 bits a dot
+-- 1 or 2 bits a dot
+abbrev pub is_depth : (depth : ℕ) → Bool
+is_depth depth = eqb depth 1 || eqb depth 2
+
+-- such a panel, at such a depth
 unfoldable pub is_display : (panel depth : ℕ) → Bool
-is_display panel depth = is_panel panel && (eqb depth 1 || eqb depth 2)
+is_display panel depth = is_panel panel && is_depth depth
 
 -- dots of a row, and rows, as the header has them: 1600 x 1200 and 1440 x 2560
 abbrev pub width_of : (panel : ℕ) → ℕ

@@ -1,13 +1,25 @@
 -- Change request 2026-12: the call that gives the command of one number, on any input.
 -- Assumes nothing.
-use Rattle.std.specs.Prelude.{ℕ, ◌+◌, cond, not, List, [], ◌∷◌, ◌++◌, eqb, ltb, length, take, replicate}
+use Rattle.std.specs.Prelude.{ℕ, ◌+◌, cond, not, List, [], ◌∷◌, ◌++◌, eqb, ltb, length, take, Option, Some, None, Result, Ok, Err}
 use Rattle.lists.specs.Lists.{overlay}
 use Rattle.lists.specs.Rules.{Case, case, first_of}
 use Rattle.hall_commands.specs.Commands.{data_of, command}
 use Rattle.hall_display.specs.Panels.{is_display, image_bytes, header}
-use Rattle.hall_display.specs.declared.Header.{Header}
-use Rattle.hall_display.specs.declared.Answer.{Answer}
-use Rattle.hall_display.specs.declared.Answer.TheVariants.{Refused, Command, NoMore}
+use Rattle.refusal.specs.Numbers.{number_of}
+use Rattle.refusal.specs.declared.Refusal.{Refusal}
+use Rattle.refusal.specs.declared.Refusal.TheVariants as refusals
+
+-- what the call for a command answers: the number of a refusal; the command's length; or that there is none, past the last
+pub data Answer : Type 0 where
+  Refused : (number : ℕ) → Answer
+  Command : (length : ℕ) → Answer
+  NoMore : Answer
+
+-- the same, from what the code answers
+abbrev pub answer_of : Result (Option ℕ) Refusal → Answer
+answer_of (Ok (Some length)) = Command length
+answer_of (Ok None) = NoMore
+answer_of (Err refusal) = Refused (number_of refusal)
 
 -- the number given back: 0 where the call is accepted
 abbrev pub answer_number : Answer → ℕ
@@ -27,12 +39,9 @@ put_out (Refused number) out = []
 put_out (Command length) out = take length out
 put_out NoMore out = []
 
--- the call that makes a header: 24, with sixteen zeros, or 0 and the header
-unfoldable pub make_header : (panel depth : ℕ) → Header
-make_header panel depth =
-    first_of (case (not (is_display panel depth)) 24 ∷ [])
-    (λ number. record { number = number; bytes = replicate 16 0 })
-    (record { number = 0; bytes = header panel depth })
+-- the call that makes a header: 24, or the header
+unfoldable pub make_header : (panel depth : ℕ) → Result (List ℕ) Refusal
+make_header panel depth = cond (is_display panel depth) (Ok (header panel depth)) (Err refusals.Display)
 
 -- 24 the panel or the depth; 25 the image's length; 26 the slot
 abbrev pub upload_cases : (panel depth image_length slot : ℕ) → List Case

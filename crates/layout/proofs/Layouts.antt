@@ -1,23 +1,23 @@
 -- Laws of row and column layout: what the chart tells once a box is placed, and once its children are.
 -- Assumes nothing.
 use mathlib.Core.Path.{◌≡◌, refl, sym, ◌∙◌}
-use mathlib.Core.Bool.{Bool, true, false, not, false≢true}
+use mathlib.Core.Bool.{true, false}
 use mathlib.Core.List.{List}
 use mathlib.Core.Logic.{◌⊎◌, inl, inr, ⊎_elim}
 use Prim.Native.Nat.{ℕ, ◌+◌, ◌-◌, ◌≤◌, ◌<◌}
 use native.Mathlib.Decide.{ℕ_discrete}
 use native.Mathlib.Omega.{arith}
 use borrow.Author.Tests.{le-leb, lt-leb}
-use lib.ListN.{length, length-set}
+use lib.ListN.{length, set, length-set}
 use lib.Seq.{get_or-set_same, get_or-set_other}
-use Rattle.lists.proofs.Rules.{below_all}
-use Rattle.counting.proofs.Below.{all_fails}
+use Rattle.lists.proofs.Rules.{below_fails}
+use Rattle.counting.proofs.Below.{all_each}
 use Rattle.layout_rules.specs.Boxes.{box_count, child_count, child_of, start_of, list_good}
 use Rattle.layout.specs.Places.{parent_of, order_in, levels_above, level_good, levels_good, part_of, place_of}
 use Rattle.layout.specs.Answer.{nowhere}
-use Rattle.layout.specs.Facts.{empty_chart, with_place, too_deep, Under, self, child, Told, Standing, Placed, AllPlaced}
+use Rattle.layout.specs.Facts.{Under, self, child, Told, Standing, Placed, TooDeep, AllPlaced}
 use Rattle.layout.specs.declared.Rect.{Rect}
-use Rattle.layout.specs.declared.Chart.{Chart}
+use Rattle.refusal.specs.declared.Refusal.TheVariants.{Levels}
 use Rattle.layout_rules.proofs.Boxes.{good_framed}
 use Rattle.layout.proofs.Places.{by_parent, levels_first, levels_up, parent_box, order_lt, order-child, child_later, child-box, child_parent, child-order, child_of_lem, place_whole, place_part, part_inside}
 
@@ -29,20 +29,16 @@ level-good list c h = le-leb (levels_above list c + 1) 6 (omega arith)
 level-deep : (list : List ℕ) (c : ℕ) → 6 ≤ levels_above list c → level_good list c ≡ false
 level-deep list c h = lt-leb (levels_above list c + 1) 6 (omega arith)
 
-levels_all : (list : List ℕ) → levels_good list ≡ true → (c : ℕ) → c < box_count list → level_good list c ≡ true
+-- every box is told of, so none lies too deep
+levels_all : (list : List ℕ) → ((c : ℕ) → c < box_count list → level_good list c ≡ true) → levels_good list ≡ true
 unfolding levels_good
-levels_all list all c h = below_all (box_count list) (level_good list) all c h
+levels_all list each = all_each (box_count list) (level_good list) each
 
-levels_some : (list : List ℕ) → levels_good list ≡ false → ((c : ℕ) × (c < box_count list) × (level_good list c ≡ false))
+levels_broken : (list : List ℕ) (c : ℕ) → c < box_count list → level_good list c ≡ false → levels_good list ≡ false
 unfolding levels_good
-levels_some list e = all_fails (box_count list) (level_good list) e
+levels_broken list c h e = below_fails (box_count list) (level_good list) c h e
 
 -- ---- boxes under a box
-
-under_levels : (list : List ℕ) (c d : ℕ) → Under list c d → levels_above list c ≤ levels_above list d
-under_levels list c d self = omega arith
-under_levels list c d (child some u) =
-    omega (arith, under_levels list c (parent_of list d) u, levels_up list d some)
 
 -- every box stands under the first
 under_first : (list : List ℕ) (d : ℕ) → d < box_count list → Under list 0 d
@@ -65,66 +61,50 @@ under_split list good c d h (child some u) =
 
 -- ---- a box without levels remaining
 
-module _ (list : List ℕ) (c : ℕ) (place : Rect) (before : Chart) (s : Standing list c 0 place before) where
-  pub deep_placed : Placed list c place before (too_deep before)
-  deep_placed = record {
-    whole = s.whole;
-    fair = λ all e. absurd (false≢true (sym own ∙ below_good all));
-    kept = λ X Y d e t. record { stands = t.stands; deep = λ f. refl };
-    told = λ X Y d e h u. record { stands = λ g. absurd (false≢true (sym (below u) ∙ g)); deep = λ f. refl };
-  } where
-    below : {d : ℕ} → Under list c d → level_good list d ≡ false
-    below {d} u = level-deep list d (omega (arith, under_levels list c d u, s.level))
-
-    own : level_good list c ≡ false
-    own = below self
-
-    below_good : levels_good list ≡ true → level_good list c ≡ true
-    below_good all = levels_all list all c s.box
+pub too_deep : (list : List ℕ) (c : ℕ) (place : Rect) (before : List Rect) → Standing list c 0 place before → TooDeep list Levels
+too_deep list c place before s =
+    record { is = refl; deep = levels_broken list c s.box (level-deep list c (omega (arith, s.level))) }
 
 -- ---- a box and its children
 
 -- the boxes under the first j children of box c are placed, besides what was told at the start
-pub record Divided (list : List ℕ) (c : ℕ) (place : Rect) (start : Chart) (j : ℕ) (chart : Chart) : Type 0 where
-  pub whole : length chart.rects ≡ 64
-  pub fair : levels_good list ≡ true → start.deep ≡ false → chart.deep ≡ false
+pub record Divided (list : List ℕ) (c : ℕ) (place : Rect) (start : List Rect) (j : ℕ) (chart : List Rect) : Type 0 where
+  pub whole : length chart ≡ 64
   pub kept : (X Y d : ℕ) → place ≡ place_of list X Y c → Told list X Y start d → Told list X Y chart d
   pub told : (X Y d i : ℕ) → place ≡ place_of list X Y c → d < box_count list → i < j → Under list (child_of list (start_of list c) i) d
       → Told list X Y chart d
 
-module _ (list : List ℕ) (c levels : ℕ) (place : Rect) (before : Chart) (s : Standing list c levels place before) (some : 0 < levels) where
+module _ (list : List ℕ) (c levels : ℕ) (place : Rect) (before : List Rect) (s : Standing list c levels place before) (some : 0 < levels) where
   -- there is a place for box c
-  pub room : (c < 64) × (length before.rects ≡ 64)
+  pub room : (c < 64) × (length before ≡ 64)
   room = (omega (arith, s.box, (good_framed list s.good).few), s.whole)
 
   -- no child yet
-  pub none_divided : (start : Chart) → start ≡ with_place before c place → Divided list c place start 0 start
-  none_divided start q = record {
-    whole = rw q (simp length-set s.whole);
-    fair = λ all e. e;
+  pub none_divided : Divided list c place (set before c place) 0 (set before c place)
+  none_divided = record {
+    whole = simp length-set s.whole;
     kept = λ X Y d e t. t;
     told = λ X Y d i e h l u. absurd (omega arith);
   }
 
-  own_told : (X Y : ℕ) → place ≡ place_of list X Y c → Told list X Y (with_place before c place) c
+  own_told : (X Y : ℕ) → place ≡ place_of list X Y c → Told list X Y (set before c place) c
   own_told X Y e = record {
-    stands = λ g. get_or-set_same before.rects c place nowhere (omega (arith, s.whole, room.0)) ∙ e;
-    deep = λ f. absurd (false≢true (sym f ∙ level-good list c (omega (arith, s.level))));
+    level = level-good list c (omega (arith, s.level));
+    stands = get_or-set_same before c place nowhere (omega (arith, s.whole, room.0)) ∙ e;
   }
 
-  still_told : (X Y d : ℕ) → place ≡ place_of list X Y c → Told list X Y before d → Told list X Y (with_place before c place) d
+  still_told : (X Y d : ℕ) → place ≡ place_of list X Y c → Told list X Y before d → Told list X Y (set before c place) d
   still_told X Y d e t =
       elim (ℕ_discrete d c) [
         | yes q ↦ rw q (own_told X Y e)
-        | no n ↦ record { stands = λ g. get_or-set_other before.rects c d place nowhere n ∙ t.stands g; deep = t.deep }
+        | no n ↦ record { level = t.level; stands = get_or-set_other before c d place nowhere n ∙ t.stands }
       ]
 
   -- all children
-  pub all_divided : (chart : Chart) → Divided list c place (with_place before c place) (child_count list (start_of list c)) chart
+  pub all_divided : (chart : List Rect) → Divided list c place (set before c place) (child_count list (start_of list c)) chart
       → Placed list c place before chart
   all_divided chart v = record {
     whole = v.whole;
-    fair = v.fair;
     kept = λ X Y d e t. v.kept X Y d e (still_told X Y d e t);
     told = λ X Y d e h u.
         ⊎_elim
@@ -142,7 +122,7 @@ module _ (list : List ℕ) (c levels : ℕ) (place : Rect) (before : Chart) (s :
         p ∙ sym (place_part list X Y b (omega arith)
         ∙ rw (child_parent list s.good c j b s.box h (sym q), child-order list s.good c j b s.box h (sym q), ← e))
 
-    module _ (start chart : Chart) (v : Divided list c place start j chart) where
+    module _ (start chart : List Rect) (v : Divided list c place start j chart) where
       pub child-stands : Standing list b (levels - 1) part chart
       child-stands =
           let later : c < b = child_later list s.good c j b s.box h (sym q) in
@@ -156,10 +136,9 @@ module _ (list : List ℕ) (c levels : ℕ) (place : Rect) (before : Chart) (s :
             whole = v.whole;
           }
 
-      pub more_divided : (after : Chart) → Placed list b part chart after → Divided list c place start (j + 1) after
+      pub more_divided : (after : List Rect) → Placed list b part chart after → Divided list c place start (j + 1) after
       more_divided after r = record {
         whole = r.whole;
-        fair = λ all e. r.fair all (v.fair all e);
         kept = λ X Y d e t. r.kept X Y d (child_place X Y e) (v.kept X Y d e t);
         told = λ X Y d i e l m u.
             elim (ℕ_discrete i j) [
@@ -170,19 +149,12 @@ module _ (list : List ℕ) (c levels : ℕ) (place : Rect) (before : Chart) (s :
 
 -- ---- the first box
 
-pub all_placed_from : (list : List ℕ) → list_good list ≡ true → (X Y : ℕ) (place : Rect) → place ≡ record { x = 0; y = 0; width = X; height = Y }
-    → (chart : Chart) → Placed list 0 place empty_chart chart → AllPlaced list X Y chart
-all_placed_from list good X Y place e chart p = record {
+pub all_placed_from : (list : List ℕ) → list_good list ≡ true → (X Y : ℕ) (before chart : List Rect)
+    → Placed list 0 (record { x = 0; y = 0; width = X; height = Y }) before chart → AllPlaced list X Y chart
+all_placed_from list good X Y before chart p = record {
   whole = p.whole;
-  deep = deep (levels_good list) refl;
-  stands = λ all c h. (told c h).stands (levels_all list all c h);
+  levels = levels_all list (λ c h. (told c h).level);
+  stands = λ c h. (told c h).stands;
 } where
-  stands : place ≡ place_of list X Y 0
-  stands = e ∙ sym (place_whole list X Y 0 (levels_first list))
-
   told : (c : ℕ) → c < box_count list → Told list X Y chart c
-  told c h = p.told X Y c stands h (under_first list c h)
-
-  deep : (t : Bool) → levels_good list ≡ t → chart.deep ≡ not t
-  deep true t = p.fair t refl
-  deep false t = let r = levels_some list t in (told r.0 r.1).deep r.2
+  told c h = p.told X Y c (sym (place_whole list X Y 0 (levels_first list))) h (under_first list c h)

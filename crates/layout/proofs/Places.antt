@@ -1,22 +1,22 @@
 -- Laws of the tree and of the places.
 -- Assumes nothing.
-use mathlib.Core.Path.{◌≡◌, refl, ap, ◌∙◌}
+use mathlib.Core.Path.{◌≡◌, refl, ap}
 use mathlib.Core.Bool.{Bool, true, false, cond}
 use mathlib.Core.List.{List}
 use mathlib.Core.Logic.{⊎_elim}
-use Prim.Native.Nat.{ℕ, zero, suc, ◌+◌, ◌%◌, ◌≤◌, ◌<◌}
+use Prim.Native.Nat.{ℕ, zero, suc, ◌+◌, ◌-◌, ◌%◌, ◌≤◌, ◌<◌}
 use native.Mathlib.Nat.{eq-zero-or-pos}
 use native.Mathlib.Omega.{arith}
 use native.Mathlib.Numerals.{add-one}
 use borrow.Author.Tests.{lt-ltb, ltb-true, eq-eqb, eqb-true}
 use Rattle.layout_rules.specs.Boxes.{box_count, child_count, weight_of, child_of, start_of, is_child, times_in, list_good}
-use Rattle.layout.specs.Places.{is_parent, parent_of, parent_start, order_in, levels_within, levels_above, weights_below, width_part, height_part, part_of, place_of}
+use Rattle.layout.specs.Places.{is_parent, parent_of, parent_start, order_in, levels_within, levels_above, weights_below, edge_of, width_part, height_part, part_of, place_of}
 use Rattle.layout.proofs.Division.{edge_le, edge_mono}
 use Rattle.layout_rules.proofs.Boxes.{box-within, good_framed, good-few, good_weight, good-once, good_later, good-number}
 use lib.Dec.{eqb}
 use Rattle.counting.proofs.Below.{last_lt, last_true, sum-le, sum_some, sum_term, sum-once, bit_some, some_bit}
 use Rattle.layout.specs.declared.Rect.{Rect}
-use Rattle.layout.specs.declared.Share.{Share}
+use Rattle.layout.specs.declared.shares.Share.{Share}
 use Rattle.layout.specs.Tiling.{Inside}
 use Rattle.layout.specs.Facts.{ChildAt, ShareFound}
 
@@ -159,16 +159,9 @@ child-at list good c h at j e l = rw e (child_of_lem list good c j h (rw e at l)
 
 pub share_found : (list : List ℕ) (at j : ℕ) → ChildAt list at j → (r : Share) → r.child ≡ child_of list at j
     → r.low ≡ weights_below list at j → r.own ≡ weight_of list at j → r.total ≡ weights_below list at (child_count list at)
-    → r.total ≤ 2040 → ShareFound list at j r
-share_found list at j k r child low own total small =
-    let with_own : r.low + r.own ≡ weights_below list at (j + 1) = rw (add-one j, low, own) in
-    record {
-      child = child;
-      low = low;
-      own = with_own;
-      total = total;
-      good = record { some = omega (arith, k.grow); within = omega (arith, k.high); small = small };
-    }
+    → ShareFound list at j r
+share_found list at j k r child low own total =
+    record { child = child; low = low; own = rw (add-one j, low, own); total = total }
 
 -- ---- places
 
@@ -186,14 +179,18 @@ unfolding place_of
 place_part list X Y c some = rw (levels_up list c some)
 
 -- a row box divides its width, and a column box its height
-module _ (list : List ℕ) (at levels : ℕ) (r : Rect) (j : ℕ) (share : Share) (f : ShareFound list at j share) (part : Rect) where
-  pub row_part : levels % 2 ≡ 0 → part ≡ width_part r share.low (share.low + share.own) share.total → part ≡ part_of list at levels r j
+module _ (list : List ℕ) (at levels : ℕ) (r : Rect) (j : ℕ) (share : Share) (f : ShareFound list at j share) (part : ℕ × ℕ) where
+  pub row_part : levels % 2 ≡ 0
+      → part ≡ (edge_of r.width share.low share.total, edge_of r.width (share.low + share.own) share.total - edge_of r.width share.low share.total)
+      → record { x = r.x + part.0; y = r.y; width = part.1; height = r.height } ≡ part_of list at levels r j
   unfolding part_of
-  row_part even e = e ∙ rw (even, f.own, f.low, f.total)
+  row_part even e = rw (e, even, f.own, f.low, f.total)
 
-  pub column_part : levels % 2 ≡ 1 → part ≡ height_part r share.low (share.low + share.own) share.total → part ≡ part_of list at levels r j
+  pub column_part : levels % 2 ≡ 1
+      → part ≡ (edge_of r.height share.low share.total, edge_of r.height (share.low + share.own) share.total - edge_of r.height share.low share.total)
+      → record { x = r.x; y = r.y + part.0; width = r.width; height = part.1 } ≡ part_of list at levels r j
   unfolding part_of
-  column_part odd e = e ∙ rw (odd, f.own, f.low, f.total)
+  column_part odd e = rw (e, odd, f.own, f.low, f.total)
 
 -- parts of a rectangle lie in it
 module _ (X Y : ℕ) (r : Rect) (low high total : ℕ) (grow : low ≤ high) (some : 0 < total) (fits : high ≤ total) (inside : Inside X Y r) where

@@ -5,6 +5,7 @@ use mathlib.Core.Path.{sym, subst}
 use mathlib.Core.List.{List}
 use Prim.Native.Nat.{ℕ}
 use Rattle.lists.proofs.Calls.{Call, AsksNothing}
+use Rattle.layout.specs.Answer.{answer_given}
 use Rattle.layout.specs.Tiling.{Tiled}
 use Rattle.layout.proofs.Tiling.{layout_tiles}
 use Rattle.layout.proofs.layout.Kinds as layout-kinds
@@ -21,7 +22,7 @@ panel_in c = c.args.0
 abbrev pub list_in : Kept → List ℕ
 list_in c = c.args.1.0.now
 
-pub layout_tied : (c : Kept) → Tiled (panel_in c) c.result
+pub layout_tied : (c : Kept) → Tiled (panel_in c) (answer_given c.result)
 layout_tied c = subst (Tiled (panel_in c)) (sym c.promised) (layout_tiles (panel_in c) (list_in c))
 
 -- and it asks nothing of what it is given

@@ -1,12 +1,11 @@
 -- Request 2026-13: the leaves tile the panel. None overlaps another, and together they are all of it.
 -- Assumes nothing.
-use Rattle.std.specs.Prelude.{ℕ, ◌+◌, ◌≤◌, ◌<◌, ◌≡◌, Bool, true, cond, List, [], ◌∷◌, ltb, leb, length, get_or, take}
+use Rattle.std.specs.Prelude.{ℕ, ◌+◌, ◌≤◌, ◌<◌, ◌≡◌, Bool, true, cond, List, [], ◌∷◌, ltb, leb, length, get_or, IfOk}
 use Rattle.lists.specs.Rules.{every}
 use Rattle.panel.specs.Panels.{width_of, rows_of}
 use Rattle.layout_rules.specs.Boxes.{list_good}
-use Rattle.layout.specs.Answer.{nowhere, leaves_of}
+use Rattle.layout.specs.Answer.{nowhere, leaves_of, Answer}
 use Rattle.layout.specs.declared.Rect.{Rect}
-use Rattle.layout.specs.declared.Leaves.{Leaves}
 
 -- the dot at x, y lies in a rectangle
 abbrev pub cover_rules : (x y : ℕ) (r : Rect) → List Bool
@@ -36,6 +35,6 @@ pub record Tiles (X Y : ℕ) (rects : List Rect) : Type 0 where
 abbrev pub LeavesTile : Type 0
 LeavesTile = (list : List ℕ) → list_good list ≡ true → (X Y : ℕ) → Tiles X Y (leaves_of list X Y)
 
--- an answer with number 0 has rectangles that tile the panel
-abbrev pub Tiled : (panel : ℕ) (answer : Leaves) → Type 0
-Tiled panel answer = answer.number ≡ 0 → Tiles (width_of panel) (rows_of panel) (take answer.count answer.rects)
+-- leaves that are given tile the panel
+abbrev pub Tiled : (panel : ℕ) (answer : Answer) → Type 0
+Tiled panel answer = IfOk answer (λ leaves. Tiles (width_of panel) (rows_of panel) leaves)

@@ -1,33 +1,29 @@
 // Layouts: the places of the leaves of a list of boxes on a panel.
 #![tactic(auto)]
 
-ghost use Rattle.std.specs.Prelude.{◌≡◌, ◌+◌, ◌*◌, ◌/◌, ◌%◌, ◌≤◌, ◌<◌, true, [], length};
+ghost use Rattle.std.specs.Prelude.{◌≡◌, ◌*◌, ◌%◌, ◌≤◌, true, length};
 ghost use Rattle.layout_rules.specs.Boxes.{child_count, next_box, list_good};
-ghost use Rattle.layout.specs.Places.{
-  weights_below,
-  edge_of,
-  width_part,
-  height_part,
-  has_dots,
-};
-ghost use Rattle.layout.specs.Answer.{answer_of, layout_of};
-ghost use Rattle.layout.specs.Tiling.{Inside};
+ghost use Rattle.layout.specs.Places.{weights_below, has_dots};
+ghost use Rattle.layout.specs.Answer.{answer_given, layout_of};
 ghost use Rattle.layout.specs.Facts.{
-  with_leaf,
   placed_on,
   ChildAt,
-  ShareGood,
   ShareFound,
-  empty_chart,
-  with_place,
-  too_deep,
   Standing,
-  Placed,
-  AllPlaced,
+  Laid,
+  Charted,
 };
 
-// A rectangle of the panel, in dots.
-#[derive(Clone, Copy)]
+mod shares;
+
+use arrayvec::ArrayVec;
+use panel::Panel;
+use refusal::Refusal;
+use shares::Share;
+
+// A rectangle of the panel, in dots: where a box stands. It is apart from `picture::Region`, which comes from outside and has rules to be
+// checked; one type for both would be no plainer.
+#[derive(Clone, Copy, Default)]
 pub struct Rect {
     pub x: u32,
     pub y: u32,
@@ -35,83 +31,22 @@ pub struct Rect {
     pub height: u32,
 }
 
-// The answer: 0 or the number of a refusal, and the leaves, which are the first `count` rectangles.
-#[derive(Clone, Copy)]
-pub struct Leaves {
-    pub number: u8,
-    pub count: usize,
-    pub rects: [Rect; 64],
-}
+// The leaves of a layout. A list has at most 64 boxes, so that they fit without a heap.
+pub type Leaves = ArrayVec<Rect, 64>;
+
+// Where each box stands, by its number, as far as they are placed.
+type Chart = [Rect; 64];
 
 // ---- the places
 
-// A chart of the boxes: where each stands, by its number, as far as they are placed, and whether one of them lies too deep.
-#[derive(Clone, Copy)]
-struct Chart {
-    deep: bool,
-    rects: [Rect; 64],
-}
-
-// A child: its number, the weights before its own, its own, and all weights of its box.
-#[derive(Clone, Copy)]
-struct Share {
-    child: usize,
-    low: u32,
-    own: u32,
-    total: u32,
-}
-
-// A rectangle of no dots.
-const NOWHERE: Rect = Rect {
-    x: 0,
-    y: 0,
-    width: 0,
-    height: 0,
-};
-
-// No box is placed.
-fn empty_chart() -> Chart
-    ensures { result ≡ empty_chart }
-{
-    Chart {
-        deep: false,
-        rects: [NOWHERE; 64],
-    }
-}
-
-// Box c stands at `place`.
-fn with_place(chart: Chart, c: usize, place: Rect) -> Chart
-    requires { (c < 64) × (length chart.rects ≡ 64) }
-    ensures { result ≡ with_place chart c place }
-{
-    let mut rects = chart.rects;
-    rects[c] = place;
-    Chart {
-        deep: chart.deep,
-        rects,
-    }
-}
-
-// A box lies too deep.
-fn too_deep(chart: Chart) -> Chart
-    ensures { result ≡ too_deep chart }
-{
-    let rects = chart.rects;
-    Chart { deep: true, rects }
-}
+// These loops run over a child's number: its weight and its own number stand apart in the list, at two indices.
 
 // The sum of the first n weights of the box at an index.
 fn weights_below(list: &[u8], at: usize, n: usize) -> u32
     requires { (next_box list.now at ≤ length list.now) × (n ≤ child_count list.now at) × (n ≤ 8) }
     ensures { (result ≡ weights_below list.now at n) × (result ≤ 255 * n) }
 {
-    let mut sum: u32 = 0;
-    let mut j: usize = 0;
-    while j < n {
-        sum += list[at + 1 + j] as u32;
-        j += 1;
-    }
-    sum
+    (0..n).map(|j| u32::from(list[at + 1 + j])).sum()
 }
 
 // The j-th child of the box at an index.
@@ -119,110 +54,78 @@ fn share_of(list: &[u8], at: usize, j: usize) -> Share
     requires { ChildAt list.now at j }
     ensures { ShareFound list.now at j result }
 {
-    let k = lists::wide(list[at]);
-    let low = weights_below(list, at, j);
-    let own = lists::wide(list[at + 1 + j]) as u32;
-    let total = weights_below(list, at, k);
+    let k = usize::from(list[at]);
     Share {
-        child: lists::wide(list[at + 1 + k + j]),
-        low,
-        own,
-        total,
-    }
-}
-
-// The whole dots of a product that is divided.
-fn floor_of(product: u32, total: u32) -> u32
-    requires { (product < 1000000) × (0 < total) × (total < 10000) }
-    ensures { result ≡ product / total }
-{
-    product / total
-}
-
-// An edge of a size that is divided by weights.
-fn edge(size: u32, weights: u32, total: u32) -> u32
-    requires { (size ≤ 264) × (0 < total) × (weights ≤ total) × (total ≤ 2040) }
-    ensures { (result ≡ edge_of size weights total) × (result ≤ size) }
-{
-    floor_of(size * weights, total)
-}
-
-// A child's part of the width of a row box.
-fn width_part(r: Rect, share: Share) -> Rect
-    requires { (ShareGood share) × (Inside 264 176 r) }
-    ensures { result ≡ width_part r share.low (share.low + share.own) share.total }
-{
-    let low = edge(r.width, share.low, share.total);
-    let high = edge(r.width, share.low + share.own, share.total);
-    Rect {
-        x: r.x + low,
-        y: r.y,
-        width: high - low,
-        height: r.height,
-    }
-}
-
-// A child's part of the height of a column box.
-fn height_part(r: Rect, share: Share) -> Rect
-    requires { (ShareGood share) × (Inside 264 176 r) }
-    ensures { result ≡ height_part r share.low (share.low + share.own) share.total }
-{
-    let low = edge(r.height, share.low, share.total);
-    let high = edge(r.height, share.low + share.own, share.total);
-    Rect {
-        x: r.x,
-        y: r.y + low,
-        width: r.width,
-        height: high - low,
+        child: usize::from(list[at + 1 + k + j]),
+        low: weights_below(list, at, j),
+        own: u32::from(list[at + 1 + j]),
+        total: weights_below(list, at, k),
     }
 }
 
 // Row box c stands at `place`, with so many levels remaining, its own among them. It divides its width, and each child is a column
-// box. The level below the sixth is one of row boxes, so that only a row box can find none remaining.
+// box. The level below the sixth is one of row boxes, so that only a row box can find none remaining. docs/DECISIONS.md says why row and
+// column layout are two functions.
 #[cycle(column_layout_row_layout)]
-fn row_layout(list: &[u8], c: usize, levels: usize, place: Rect, before: Chart) -> Chart
-    requires { (Standing list.now c levels place before) × (levels % 2 ≡ 0) }
-    ensures { Placed list.now c place before result }
+fn row_layout(
+    list: &[u8],
+    c: usize,
+    levels: usize,
+    place: Rect,
+    chart: &mut Chart,
+) -> Result<(), Refusal>
+    requires { (Standing list.now c levels place chart.old) × (levels % 2 ≡ 0) }
+    ensures { Laid list.now c place chart.old result chart.new }
 {
     if levels == 0 {
-        return too_deep(before);
+        return Err(Refusal::Levels);
     }
     let at = layout_rules::start_of(list, c);
-    let k = lists::wide(list[at]);
-    let mut chart = with_place(before, c, place);
-    let mut j: usize = 0;
-    while j < k {
+    chart[c] = place;
+    for j in 0..usize::from(list[at]) {
         let share = share_of(list, at, j);
-        let part = width_part(place, share);
-        chart = column_layout(list, share.child, levels - 1, part, chart);
-        j += 1;
+        let (left, width) = share.part(place.width);
+        let part = Rect {
+            x: place.x + left,
+            width,
+            ..place
+        };
+        column_layout(list, share.child, levels - 1, part, chart)?;
     }
-    chart
+    Ok(())
 }
 
 // Column box c stands at `place`. It divides its height, and each child is a row box.
 #[cycle(column_layout_row_layout)]
-fn column_layout(list: &[u8], c: usize, levels: usize, place: Rect, before: Chart) -> Chart
-    requires { (Standing list.now c levels place before) × (levels % 2 ≡ 1) }
-    ensures { Placed list.now c place before result }
+fn column_layout(
+    list: &[u8],
+    c: usize,
+    levels: usize,
+    place: Rect,
+    chart: &mut Chart,
+) -> Result<(), Refusal>
+    requires { (Standing list.now c levels place chart.old) × (levels % 2 ≡ 1) }
+    ensures { Laid list.now c place chart.old result chart.new }
 {
     let at = layout_rules::start_of(list, c);
-    let k = lists::wide(list[at]);
-    let mut chart = with_place(before, c, place);
-    let mut j: usize = 0;
-    while j < k {
+    chart[c] = place;
+    for j in 0..usize::from(list[at]) {
         let share = share_of(list, at, j);
-        let part = height_part(place, share);
-        chart = row_layout(list, share.child, levels - 1, part, chart);
-        j += 1;
+        let (top, height) = share.part(place.height);
+        let part = Rect {
+            y: place.y + top,
+            height,
+            ..place
+        };
+        row_layout(list, share.child, levels - 1, part, chart)?;
     }
-    chart
+    Ok(())
 }
 
 // The places of all boxes: the first is a row box and has the whole panel.
-fn chart_on(list: &[u8], width: u32, height: u32) -> Chart
+fn chart_on(list: &[u8], width: u32, height: u32) -> Result<Chart, Refusal>
     requires { (list_good list.now ≡ true) × (width ≤ 264) × (height ≤ 176) }
-    ensures { AllPlaced list.now width height result }
+    ensures { Charted list.now width height result }
 {
     let whole = Rect {
         x: 0,
@@ -230,83 +133,52 @@ fn chart_on(list: &[u8], width: u32, height: u32) -> Chart
         width,
         height,
     };
-    row_layout(list, 0, 6, whole, empty_chart())
+    let mut chart = [Rect::default(); 64];
+    row_layout(list, 0, 6, whole, &mut chart)?;
+    Ok(chart)
 }
 
 // ---- the answer
 
-fn refused(number: u8) -> Leaves
-    ensures { result ≡ answer_of number [] }
-{
-    Leaves {
-        number,
-        count: 0,
-        rects: [NOWHERE; 64],
-    }
-}
-
-fn has_dots(r: Rect) -> bool
-    ensures { result ≡ has_dots r }
-{
-    if r.width == 0 {
-        return false;
-    }
-    0 < r.height
-}
-
-// An answer with one leaf more.
-fn with_leaf(answer: Leaves, place: Rect) -> Leaves
-    requires { (answer.count < 64) × (length answer.rects ≡ 64) }
-    ensures { result ≡ with_leaf answer place }
-{
-    let count = answer.count;
-    let mut rects = answer.rects;
-    rects[count] = place;
-    Leaves {
-        number: answer.number,
-        count: count + 1,
-        rects,
+impl Rect {
+    // Whether it has a width and a height.
+    fn has_dots(self) -> bool
+        ensures { result ≡ has_dots self }
+    {
+        0 < self.width && 0 < self.height
     }
 }
 
 // The leaves of a good list, or the refusal of a box that lies too deep or has no width or height.
-fn leaves_on(list: &[u8], width: u32, height: u32) -> Leaves
+fn leaves_on(list: &[u8], width: u32, height: u32) -> Result<Leaves, Refusal>
     requires { (list_good list.now ≡ true) × (width ≤ 264) × (height ≤ 176) }
-    ensures { result ≡ placed_on list.now width height }
+    ensures { answer_given result ≡ placed_on list.now width height }
 {
-    let chart = chart_on(list, width, height);
-    if chart.deep {
-        return refused(30);
-    }
-    let rects = chart.rects;
-    let n = lists::wide(list[0]);
-    let mut answer = refused(0);
-    let mut at: usize = 1;
-    let mut c: usize = 0;
-    while c < n {
-        let place = rects[c];
-        if !has_dots(place) {
-            return refused(31);
+    let chart = chart_on(list, width, height)?;
+    let mut leaves = ArrayVec::new();
+    // The index is carried along with the box's number, since only the box says where the next one begins.
+    let mut at = 1;
+    for c in 0..usize::from(list[0]) {
+        let place = chart[c];
+        if !place.has_dots() {
+            return Err(Refusal::Empty);
         }
         if list[at] == 0 {
-            answer = with_leaf(answer, place);
+            leaves.push(place);
         }
         at = layout_rules::next_box(list, at);
-        c += 1;
     }
-    answer
+    Ok(leaves)
 }
 
-// The leaves of a layout, in the list's order, on a panel.
-pub fn layout(panel: u32, list: &[u8]) -> Leaves
-    ensures { result ≡ layout_of panel list.now }
+// The leaves of a layout, in the list's order, on a panel. The panel is any code from outside: one that no panel has is refused.
+pub fn layout(panel: u32, list: &[u8]) -> Result<Leaves, Refusal>
+    ensures { answer_given result ≡ layout_of panel list.now }
 {
-    if !panel::is_panel(panel) {
-        return refused(14);
-    }
+    let panel = Panel::try_from(panel)?;
     if !layout_rules::list_good(list) {
-        return refused(29);
+        return Err(Refusal::List);
     }
-    let p = panel as usize;
-    leaves_on(list, 8 * panel::row_bytes(p) as u32, panel::rows(p) as u32)
+    let shape = panel.shape();
+    leaves_on(list, 8 * shape.bytes as u32, shape.rows as u32)
 }

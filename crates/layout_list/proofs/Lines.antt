@@ -1,28 +1,30 @@
 -- Laws of the leaves' lines, and what the program may take for granted of an answer.
 -- Assumes nothing.
-use mathlib.Core.Path.{◌≡◌, refl, sym, ap}
+use mathlib.Core.Path.{◌≡◌, refl, sym}
 use mathlib.Core.List.{List, [], ◌∷◌, ◌++◌, append_assoc, append-nil}
 use Prim.Native.Nat.{ℕ, zero, suc, ◌+◌, ◌-◌, ◌/◌, ◌%◌, ◌^◌, ◌≤◌, ◌<◌}
 use native.Mathlib.Nat.{pow-le-pow_right}
 use native.Mathlib.Numerals.{add-one}
 use native.Mathlib.Omega.{arith}
-use borrow.Author.Tests.{eq-eqb, ne_eqb, lt-ltb}
-use lib.ListN.{length, get_or, take, drop, replicate, length-drop, get_or-append}
+use borrow.Author.Tests.{lt-ltb}
+use lib.ListN.{length, get_or, take}
 use Rattle.io.specs.Digits.{hex_digit_ascii, last_digits, IsDigitCount}
-use Rattle.listing.specs.Text.{ascii, newline, digit, decimal}
-use lib.Seq.{take-suc, take_all}
+use Rattle.listing.specs.Text.{digit, decimal}
+use lib.Seq.{take-suc}
 use Rattle.panel.specs.Panels.{width_of, rows_of}
 use Rattle.listing.proofs.Text.{decimal_1, decimal_2, decimal_3}
 use Rattle.lists.proofs.Cases.{entry_lt}
 use Rattle.panel.proofs.Panels.{rows-le}
 use Rattle.layout_rules.specs.Boxes.{box_count}
-use Rattle.layout.specs.Answer.{nowhere, leaves_of, layout_of}
+use Rattle.layout.specs.Answer.{nowhere, leaves_of, layout_of, answer_given}
 use Rattle.layout.specs.Tiling.{Inside}
 use Rattle.layout_rules.proofs.Boxes.{good_framed}
-use Rattle.layout.proofs.Answer.{length-padded, leaves_le}
+use Rattle.layout.proofs.Answer.{leaves_le}
 use Rattle.layout.proofs.Tiling.{accepted, leaves_tile}
 use Rattle.layout.specs.declared.Rect.{Rect}
-use Rattle.layout.specs.declared.Leaves.{Leaves}
+use Rattle.std.specs.Prelude.{Result, Ok, Err, IfOk}
+use Rattle.refusal.specs.declared.Refusal.{Refusal}
+use Rattle.arrayvec.specs.ArrayVec.{ArrayVec}
 use Rattle.layout_list.specs.Text.{leaf_line, leaf_lines, answer_text, layout_text, Drawn}
 
 lines_append : (left right : List Rect) → leaf_lines (left ++ right) ≡ leaf_lines left ++ leaf_lines right
@@ -72,43 +74,29 @@ fewest_short n (suc (suc (suc (suc k)))) h f = absurd (fewest_long n k h f)
 
 -- ---- the text of an answer
 
-pub text_leaves : (a : Leaves) → a.number ≡ 0 → leaf_lines (take a.count a.rects) ≡ answer_text a
-text_leaves a e = rw (eq-eqb a.number 0 e)
-
-pub text_refused : (a : Leaves) → (a.number ≡ 0 → ⊥) → ascii "refused " ++ (decimal a.number ++ newline) ≡ answer_text a
-text_refused a d = rw (ne_eqb a.number 0 d)
-
--- the list after the panel's code
-pub rest-whole : (input : List ℕ) → take (length input - 1) (drop 1 input) ≡ drop 1 input
-rest-whole input = take_all (length input - 1) (drop 1 input) (simp length-drop (omega arith))
-
--- the text of an input, without a panel and with one
-pub text_empty : (input : List ℕ) (a : Leaves) → length input ≡ 0 → a ≡ layout_of 256 input → answer_text a ≡ layout_text input
-unfolding layout_text
-text_empty [] a z e = ap answer_text e
-text_empty (b ∷ bs) a z e = absurd (omega arith)
-
-pub text_some : (input : List ℕ) (a : Leaves) → 0 < length input → a ≡ layout_of (get_or input 0 0) (drop 1 input) → answer_text a ≡ layout_text input
-unfolding layout_text
-text_some [] a h e = absurd (omega arith)
-text_some (b ∷ bs) a h e = ap answer_text e
-
 -- the leaves of an accepted answer lie on the panel
-pub drawn : (panel : ℕ) (list : List ℕ) (a : Leaves) → a ≡ layout_of panel list → a.number ≡ 0 → Drawn a
-drawn panel list a e z =
-    let n : (layout_of panel list).number ≡ 0 = rw e at z in
-    let g = accepted panel list n in
+pub drawn : (panel : ℕ) (list : List ℕ) (answer : Result (ArrayVec Rect) Refusal) → answer_given answer ≡ layout_of panel list
+    → IfOk answer (λ leaves. Drawn leaves.items)
+drawn panel list (Err refusal) e = tt
+drawn panel list (Ok leaves) e =
+    let g = accepted panel list leaves.items (sym e) in
     let rects : List Rect = leaves_of list (width_of panel) (rows_of panel) in
-    let few : length rects ≤ 64 = omega (arith, leaves_le list (width_of panel) (rows_of panel) (box_count list), (good_framed list g.0).few) in
-    rw (e, g.1) (record {
-      few = few;
-      whole = length-padded rects few;
-      inside = λ k h.
-          rw (get_or-append rects (replicate (64 - length rects) nowhere) nowhere k h)
-          (largest panel (get_or rects k nowhere) ((leaves_tile list g.0 (width_of panel) (rows_of panel)).within k h));
+    rw g.1 (record {
+      few = omega (arith, leaves_le list (width_of panel) (rows_of panel) (box_count list), (good_framed list g.0).few);
+      inside = λ k h. largest panel (get_or rects k nowhere) ((leaves_tile list g.0 (width_of panel) (rows_of panel)).within k h);
     }) where
       largest : (panel : ℕ) (r : Rect) → Inside (width_of panel) (rows_of panel) r → Inside 264 176 r
       largest panel r i = record {
         across = omega (arith, i.across, entry_lt 265 (128 ∷ 200 ∷ 264 ∷ []) refl panel);
         down = omega (arith, i.down, rows-le panel);
       }
+
+-- the text of an input, without a panel and with one
+pub text_none : (input : List ℕ) → length input ≡ 0 → answer_text (layout_of 256 input) ≡ layout_text input
+unfolding layout_text
+text_none [] e = refl
+text_none (b ∷ bs) e = absurd (omega arith)
+
+pub text_some : (input : List ℕ) (panel : ℕ) (list : List ℕ) → input ≡ panel ∷ list → answer_text (layout_of panel list) ≡ layout_text input
+unfolding layout_text
+text_some input panel list e = rw e

@@ -1,92 +1,84 @@
 // Reads a panel's code and a layout's list on standard input, and writes a line for each leaf on standard output.
 #![tactic(auto)]
 
-ghost use Rattle.std.specs.Prelude.{◌≡◌, ◌+◌, ◌≤◌, ◌<◌, ◌++◌, length, take};
+ghost use Rattle.std.specs.Prelude.{◌≡◌, ◌+◌, ◌≤◌, ◌<◌, ◌++◌, [], ◌∷◌, IfOk, length};
+ghost use Rattle.arrayvec.specs.ArrayVec.{array_vec_len};
 ghost use Rattle.listing.specs.Text.{decimal};
-ghost use Rattle.listing.specs.Appended.{Appended};
 ghost use Rattle.layout.specs.Tiling.{Inside};
+ghost use Rattle.layout.specs.Answer.{answer_given};
 ghost use Rattle.layout_list.specs.Text.{leaf_line, leaf_lines, answer_text, layout_text, Drawn};
 
+use arrayvec::ArrayVec;
 use layout::{Leaves, Rect};
+use refusal::Refusal;
 
-// Puts text into `out` from index `at` on, and answers the index after it. All functions here do so, each with its own text.
-fn put_text(out: &mut [u8], at: usize, text: &[u8]) -> usize
-    requires { at + length text.now ≤ length out.old }
-    ensures { Appended text.now at out.old result out.new }
-{
-    lists::put_at(out, at, text);
-    at + text.len()
-}
+// The text so far, with room for the lines of 64 leaves and no heap. Each function here that puts text puts its own after it.
+type Page = ArrayVec<u8, 1024>;
 
-// A number, and one byte after it.
-fn put_number(out: &mut [u8], at: usize, n: u32, after: &[u8]) -> usize
-    requires { (n < 1000) × (length after.now ≡ 1) × (at + 4 ≤ length out.old) }
-    ensures { (Appended (decimal n ++ after.now) at out.old result out.new) × (result ≤ at + 4) }
+// A number below 1,000, and one byte after it. Digits and text are put by hand: `write!` into a page of a fixed length may fail, which
+// the proof would have to exclude.
+fn put_number(page: &mut Page, n: u32, after: u8)
+    requires { (n < 1000) × (array_vec_len page.old + 4 ≤ 1024) }
+    ensures text { page.new.items ≡ page.old.items ++ (decimal n ++ (after ∷ [])) }
+    ensures short { array_vec_len page.new ≤ array_vec_len page.old + 4 }
 {
-    let mut digits = [0u8; 20];
-    let k = io::decimal(n as u64, &mut digits);
-    let end = put_text(out, at, &digits[..k]);
-    put_text(out, end, after)
+    let mut digits = [0; 20];
+    let k = io::decimal(u64::from(n), &mut digits);
+    page.try_extend_from_slice(&digits[..k]).unwrap();
+    page.push(after);
 }
 
 // A leaf's line.
-fn put_leaf(out: &mut [u8], at: usize, r: Rect) -> usize
-    requires { (Inside 264 176 r) × (at + 16 ≤ length out.old) }
-    ensures { (Appended (leaf_line r) at out.old result out.new) × (result ≤ at + 16) }
+fn put_leaf(page: &mut Page, r: Rect)
+    requires { (Inside 264 176 r) × (array_vec_len page.old + 16 ≤ 1024) }
+    ensures text { page.new.items ≡ page.old.items ++ leaf_line r }
+    ensures short { array_vec_len page.new ≤ array_vec_len page.old + 16 }
 {
-    let y = put_number(out, at, r.x, b" ");
-    let width = put_number(out, y, r.y, b" ");
-    let height = put_number(out, width, r.width, b" ");
-    put_number(out, height, r.height, b"\n")
+    put_number(page, r.x, b' ');
+    put_number(page, r.y, b' ');
+    put_number(page, r.width, b' ');
+    put_number(page, r.height, b'\n');
 }
 
-// The lines of the leaves of an answer.
-fn put_leaves(out: &mut [u8], answer: Leaves) -> usize
-    requires { (Drawn answer) × (1024 ≤ length out.old) }
-    ensures { (Appended (leaf_lines (take answer.count answer.rects)) 0 out.old result out.new) × (result ≤ 1024) }
+// The lines of leaves.
+fn put_leaves(page: &mut Page, leaves: &[Rect])
+    requires { (Drawn leaves.now) × (page.old.items ≡ []) }
+    ensures { page.new.items ≡ leaf_lines leaves.now }
 {
-    let rects = answer.rects;
-    let n = answer.count;
-    let mut end: usize = 0;
-    let mut i: usize = 0;
-    while i < n {
-        let leaf = rects[i];
-        end = put_leaf(out, end, leaf);
-        i += 1;
+    for leaf in leaves {
+        put_leaf(page, *leaf);
     }
-    end
 }
 
 // The text of an answer.
-fn put_answer(out: &mut [u8], answer: Leaves) -> usize
-    requires { ((answer.number ≡ 0 → Drawn answer)) × (1024 ≤ length out.old) }
-    ensures { (Appended (answer_text answer) 0 out.old result out.new) × (result ≤ 1024) }
+fn page_of(answer: Result<Leaves, Refusal>) -> Page
+    requires { IfOk answer (λ leaves. Drawn leaves.items) }
+    ensures { result.items ≡ answer_text (answer_given answer) }
 {
-    let number = answer.number;
-    if number == 0 {
-        return put_leaves(out, answer);
+    let mut page = ArrayVec::new();
+    match answer {
+        Ok(leaves) => put_leaves(&mut page, leaves.as_slice()),
+        Err(refusal) => {
+            page.try_extend_from_slice(b"refused ").unwrap();
+            put_number(&mut page, u32::from(refusal.number()), b'\n');
+        }
     }
-    let end = put_text(out, 0, b"refused ");
-    put_number(out, end, number as u32, b"\n")
+    page
 }
 
-// The text of a layout, from the panel's code and the list after it.
-fn put_layout(out: &mut [u8], input: &[u8]) -> usize
-    requires { 1024 ≤ length out.old }
-    ensures { (Appended (layout_text input.now) 0 out.old result out.new) × (result ≤ 1024) }
+// The text of a layout, from the panel's code and the list after it. No code is no panel.
+fn page_for(input: &[u8]) -> Page
+    ensures { result.items ≡ layout_text input.now }
 {
-    if input.len() == 0 {
-        return put_answer(out, layout::layout(256, input));
-    }
-    let answer = layout::layout(input[0] as u32, &input[1..]);
-    put_answer(out, answer)
+    let Some((&panel, list)) = input.split_first() else {
+        return page_of(Err(Refusal::Argument));
+    };
+    page_of(layout::layout(u32::from(panel), list))
 }
 
 fn main(rt: HostRuntime) -> std::io::Result<()> {
     // The code, and one byte more than the longest list: a longer input fills it, and no list of this length is good.
-    let mut given = [0u8; 193];
+    let mut given = [0; 193];
     let n = input::fill(&mut rt.stdin(), &mut given)?;
-    let mut text = [0u8; 1024];
-    let len = put_layout(&mut text, &given[..n]);
-    rt.write_all(&text[..len])
+    rt.write_all(page_for(&given[..n]).as_slice())
 }

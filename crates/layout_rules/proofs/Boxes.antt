@@ -1,18 +1,18 @@
 -- Laws of the list: where its boxes begin and end.
 -- Assumes nothing.
-use mathlib.Core.Path.{◌≡◌, sym, ◌∙◌}
-use mathlib.Core.Bool.{true, false, and-true}
+use mathlib.Core.Path.{◌≡◌, refl, sym}
+use mathlib.Core.Bool.{true, false}
 use mathlib.Core.List.{List}
 use mathlib.Core.Logic.{⊎_elim}
 use Prim.Native.Nat.{ℕ, zero, suc, ◌+◌, ◌-◌, ◌≤◌, ◌<◌}
 use native.Mathlib.Nat.{eq-or-lt_of_le}
 use native.Mathlib.Omega.{arith}
 use native.Mathlib.Numerals.{add-one}
-use borrow.Author.Tests.{ne_eqb, lt-ltb, le-leb, lt-leb, leb-true, eqb-true, ltb-true}
-use lib.Dec.{ltb, eqb}
-use lib.ListN.{length, get_or-eq_default}
+use borrow.Author.Tests.{ne_eqb, le-leb, lt-leb, leb-true, eqb-true, ltb-true}
+use lib.Dec.{eqb}
+use lib.ListN.{length}
 use Rattle.lists.specs.Rules.{all_below}
-use Rattle.lists.proofs.Rules.{broken, none, keep, all_kept, holds, others, below_all, below_fails}
+use Rattle.lists.proofs.Rules.{broken, none, keep, decides, holds, below_all}
 use Rattle.layout_rules.specs.Boxes.{box_count, child_count, weight_of, child_of, next_box, start_of, child_rules, child_good, box_rules, box_good, times_child, child_once, list_rules, list_good}
 use Rattle.layout_rules.specs.Facts.{Framed}
 
@@ -43,32 +43,14 @@ some_bytes list f = omega (arith, start-le list 0 (box_count list) (omega arith)
 
 -- ---- the rules
 
--- where the other rules of a child are kept, the last decides
-pub child_last : (list : List ℕ) (i at j c : ℕ) → c ≡ child_of list at j → 1 ≤ weight_of list at j → weight_of list at j ≤ 100 → i < c
-    → ltb c (box_count list) ≡ child_good list i at j
-unfolding child_good
-child_last list i at j c e low high later =
-    sym
-    (others 3 (child_rules list i at j)
-    (keep (le-leb _ _ low) (keep (le-leb _ _ high) (keep (lt-ltb _ _ (rw e at later)) none)))
-    ∙ rw (← e) (and-true (ltb c (box_count list))))
-
 module _ (list : List ℕ) (i at : ℕ) (e : at ≡ start_of list i) where
   pub box-full : 8 < child_count list at → false ≡ box_good list i
   unfolding box_good
   box-full h = rw (← e) (sym (broken 0 (box_rules list i at) (lt-leb (child_count list at) 8 h)))
 
-  pub box_broken : (j : ℕ) → j < child_count list at → child_good list i at j ≡ false → false ≡ box_good list i
+  pub box_few : child_count list at ≤ 8 → all_below (child_count list at) (child_good list i at) ≡ box_good list i
   unfolding box_good
-  box_broken j h f =
-      rw (← e) (sym (broken 1 (box_rules list i at) (below_fails (child_count list at) (child_good list i at) j h f)))
-
-  pub box_kept : child_count list at ≤ 8 → all_below (child_count list at) (child_good list i at) ≡ true → true ≡ box_good list i
-  unfolding box_good
-  box_kept few all = rw (← e) (sym (all_kept {tests = box_rules list i at} (keep (le-leb _ _ few) (keep all none))))
-
-pub no_boxes : (list : List ℕ) → length list ≡ 0 → box_count list ≡ 0
-no_boxes list e = get_or-eq_default list 0 (omega arith)
+  box_few few = rw (← e) (sym (decides 1 (box_rules list i at) (keep (le-leb _ _ few) (keep refl none))))
 
 -- a list that ends with its boxes
 pub frame : (list : List ℕ) → box_count list ≤ 64 → start_of list (box_count list) ≡ length list → Framed list

@@ -17,45 +17,33 @@ ghost use Rattle.layout_rules.specs.Boxes.{
 };
 ghost use Rattle.layout_rules.specs.Facts.{Framed};
 
+// The loops over boxes count them, and carry the index along: only a box's own first byte says where the next one begins.
+
 // Whether the n boxes of a list end where it ends.
 fn framed(list: &[u8], n: usize) -> bool
-    requires { 0 < length list.now }
+    requires { n ≤ 64 }
     ensures { result ≡ eqb (start_of list.now n) (length list.now) }
 {
-    let mut at: usize = 1;
-    let mut i: usize = 0;
-    while i < n {
-        if list.len() <= at {
+    let mut at = 1;
+    for _ in 0..n {
+        let Some(&k) = list.get(at) else {
             return false;
-        }
-        let size = 1 + 2 * lists::wide(list[at]);
-        if list.len() - at < size {
-            return false;
-        }
-        at += size;
-        i += 1;
+        };
+        at += 1 + 2 * usize::from(k);
     }
     at == list.len()
 }
 
 // Whether the j-th child of box i, which begins at `at`, keeps its rule.
+#[tactic(auto, unfolding(crate::specs::Boxes::child_good))]
 fn child_good(list: &[u8], i: usize, at: usize, j: usize) -> bool
     requires { (next_box list.now at ≤ length list.now) × (j < child_count list.now at) }
     ensures { result ≡ child_good list.now i at j }
 {
+    let k = usize::from(list[at]);
     let weight = list[at + 1 + j];
-    if weight < 1 {
-        return false;
-    }
-    if 100 < weight {
-        return false;
-    }
-    let k = lists::wide(list[at]);
     let child = list[at + 1 + k + j];
-    if lists::wide(child) <= i {
-        return false;
-    }
-    child < list[0]
+    (1..=100).contains(&weight) && i < usize::from(child) && child < list[0]
 }
 
 // Whether box i, which begins at `at`, keeps its rule.
@@ -63,18 +51,8 @@ fn box_good(list: &[u8], i: usize, at: usize) -> bool
     requires { (at ≡ start_of list.now i) × (next_box list.now at ≤ length list.now) }
     ensures { result ≡ box_good list.now i }
 {
-    let k = lists::wide(list[at]);
-    if 8 < k {
-        return false;
-    }
-    let mut j: usize = 0;
-    while j < k {
-        if !child_good(list, i, at, j) {
-            return false;
-        }
-        j += 1;
-    }
-    true
+    let k = usize::from(list[at]);
+    k <= 8 && (0..k).all(|j| child_good(list, i, at, j))
 }
 
 // Where the next box begins.
@@ -82,7 +60,7 @@ pub fn next_box(list: &[u8], at: usize) -> usize
     requires { next_box list.now at ≤ length list.now }
     ensures { result ≡ next_box list.now at }
 {
-    at + 1 + 2 * lists::wide(list[at])
+    at + 1 + 2 * usize::from(list[at])
 }
 
 // The index at which box c begins.
@@ -90,11 +68,9 @@ pub fn start_of(list: &[u8], c: usize) -> usize
     requires { (Framed list.now) × (c < box_count list.now) }
     ensures { result ≡ start_of list.now c }
 {
-    let mut at: usize = 1;
-    let mut i: usize = 0;
-    while i < c {
+    let mut at = 1;
+    for _ in 0..c {
         at = next_box(list, at);
-        i += 1;
     }
     at
 }
@@ -104,15 +80,12 @@ fn boxes_good(list: &[u8]) -> bool
     requires { Framed list.now }
     ensures { result ≡ all_below (box_count list.now) (box_good list.now) }
 {
-    let n = lists::wide(list[0]);
-    let mut at: usize = 1;
-    let mut i: usize = 0;
-    while i < n {
+    let mut at = 1;
+    for i in 0..usize::from(list[0]) {
         if !box_good(list, i, at) {
             return false;
         }
         at = next_box(list, at);
-        i += 1;
     }
     true
 }
@@ -122,16 +95,10 @@ fn times_in(list: &[u8], c: usize, at: usize) -> usize
     requires { next_box list.now at ≤ length list.now }
     ensures { (result ≡ times_in list.now c at) × (result ≤ 255) }
 {
-    let k = lists::wide(list[at]);
-    let mut times: usize = 0;
-    let mut j: usize = 0;
-    while j < k {
-        if lists::wide(list[at + 1 + k + j]) == c {
-            times += 1;
-        }
-        j += 1;
-    }
-    times
+    let k = usize::from(list[at]);
+    (0..k)
+        .filter(|j| usize::from(list[at + 1 + k + j]) == c)
+        .count()
 }
 
 // How often box c is a child.
@@ -139,14 +106,11 @@ fn times_child(list: &[u8], c: usize) -> usize
     requires { Framed list.now }
     ensures { result ≡ times_child list.now c }
 {
-    let n = lists::wide(list[0]);
-    let mut times: usize = 0;
-    let mut at: usize = 1;
-    let mut i: usize = 0;
-    while i < n {
+    let mut times = 0;
+    let mut at = 1;
+    for _ in 0..usize::from(list[0]) {
         times += times_in(list, c, at);
         at = next_box(list, at);
-        i += 1;
     }
     times
 }
@@ -156,36 +120,16 @@ fn each_once(list: &[u8]) -> bool
     requires { Framed list.now }
     ensures { result ≡ all_below (box_count list.now - 1) (child_once list.now) }
 {
-    let n = lists::wide(list[0]);
-    let mut i: usize = 0;
-    while i + 1 < n {
-        if times_child(list, i + 1) != 1 {
-            return false;
-        }
-        i += 1;
-    }
-    true
+    (1..usize::from(list[0])).all(|c| times_child(list, c) == 1)
 }
 
 // Whether a list keeps every rule.
+#[tactic(auto, unfolding(crate::specs::Boxes::list_good))]
 pub fn list_good(list: &[u8]) -> bool
     ensures { result ≡ list_good list.now }
 {
-    if list.len() == 0 {
+    let Some(&n) = list.first() else {
         return false;
-    }
-    let n = lists::wide(list[0]);
-    if n < 1 {
-        return false;
-    }
-    if 64 < n {
-        return false;
-    }
-    if !framed(list, n) {
-        return false;
-    }
-    if !boxes_good(list) {
-        return false;
-    }
-    each_once(list)
+    };
+    (1..=64).contains(&n) && framed(list, usize::from(n)) && boxes_good(list) && each_once(list)
 }

@@ -1,16 +1,15 @@
 -- Laws of the lines of a whole file.
 -- Assumes nothing.
-use mathlib.Core.Path.{◌≡◌, sym, ap, ◌∙◌}
+use mathlib.Core.Path.{◌≡◌, ap, ◌∙◌}
 use mathlib.Core.Bool.{true, false}
 use mathlib.Core.List.{List, ◌++◌}
 use Prim.Native.Nat.{ℕ, ◌+◌, ◌≤◌, ◌<◌}
 use native.Mathlib.Omega.{arith}
 use lib.ListN.{length, drop, length-append}
 use Rattle.panel.proofs.Panels.{each_panel}
-use Rattle.settings.specs.Settings.{Step, steps_of}
-use Rattle.settings.specs.Plans.{SectionIn, SectionOf, PlannedFor}
+use Rattle.settings.specs.Settings.{Step, steps_of, settings_good}
+use Rattle.settings.specs.Plans.{SectionIn, SectionOf}
 use Rattle.settings.specs.declared.Section.{Section}
-use Rattle.settings.specs.declared.Planned.{Planned}
 use Rattle.listing.specs.Text.{ascii, newline, decimal}
 use Rattle.listing.specs.Listing.{panel_line, step_lines, section_lines, file_lines, listing}
 use Rattle.listing.proofs.Text.{decimal_short}
@@ -44,10 +43,11 @@ section_lines_lem word {panel} {file} {section} {count} s =
 
 -- ---- the listing, by what the check says of the file
 
-pub listing-good : {file : List ℕ} {r : Planned} → PlannedFor file r → r.ok ≡ true → file_lines file ≡ listing file
-unfolding listing
-listing-good planned e = rw (sym planned.accepted ∙ e)
+module _ (file : List ℕ) where
+  pub listing_good : settings_good file ≡ true → file_lines file ≡ listing file
+  unfolding listing
+  listing_good e = rw e
 
-pub listing_bad : {file : List ℕ} {r : Planned} → PlannedFor file r → r.ok ≡ false → ascii "refused 2" ++ newline ≡ listing file
-unfolding listing
-listing_bad planned e = rw (sym planned.accepted ∙ e)
+  pub listing_bad : settings_good file ≡ false → ascii "refused 2" ++ newline ≡ listing file
+  unfolding listing
+  listing_bad e = rw e

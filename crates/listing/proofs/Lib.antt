@@ -1,6 +1,5 @@
--- `Appended` has the laws of text after text, `Text` those of numbers as text, `Steps` and `File` those of the lines; `Examples` is
--- document 01's, and `Tied` the listing over its contract as the source has it.
-pub mod Appended
+-- `Text` has the laws of numbers as text, `Steps` and `File` those of the lines; `Examples` is document 01's, and `Tied` the listing over
+-- its contract as the source has it.
 pub mod Text
 pub mod Steps
 pub mod File

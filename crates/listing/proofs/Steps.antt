@@ -9,14 +9,10 @@ use lib.ListN.{length, take, drop, length-append, length-take}
 use lib.Seq.{drop-drop}
 use Rattle.panel.specs.Registers.{data_length}
 use Rattle.panel.proofs.Registers.{data_length-le}
-use Rattle.settings.specs.Settings.{Step, write, wait, malformed, step_of, size_of, steps_of, rest_of}
-use Rattle.settings.specs.Facts.{kind_of}
-use Rattle.settings.specs.declared.Kind.TheVariants.{Malformed}
+use Rattle.settings.specs.Settings.{Step, write, wait, step_of, size_of, steps_of, rest_of}
 use Rattle.settings.proofs.Steps.{step_cases}
 use Rattle.listing.specs.Text.{ascii, newline, hex_byte, spaced_bytes, decimal}
 use Rattle.listing.specs.Listing.{step_line, step_lines}
-use Rattle.listing.specs.Appended.{Appended}
-use Rattle.listing.proofs.Appended.{appended_next, appended_as}
 use Rattle.listing.proofs.Text.{length_spaced, decimal_short}
 
 -- ---- the line of one step
@@ -24,11 +20,6 @@ use Rattle.listing.proofs.Text.{length_spaced, decimal_short}
 -- the data of a write are at most eight bytes
 data_le : (register n : ℕ) (s : List ℕ) → n ≡ data_length register → length (take n s) ≤ 8
 data_le register n s e = omega (arith, length-take n s, data_length-le register)
-
-pub malformed-line : (step : Step) → kind_of step ≡ Malformed → [] ≡ step_line step
-malformed-line (write r d) e = absurd (let z : ◌≡◌ {A = ℕ} 0 1 = cc in omega arith)
-malformed-line (wait ms) e = absurd (let z : ◌≡◌ {A = ℕ} 0 1 = cc in omega arith)
-malformed-line malformed e = refl
 
 -- no line is longer than that of a write of eight bytes
 write_short : (register : ℕ) (bytes : List ℕ) → length bytes ≤ 8 → length (step_line (write register bytes)) ≤ 33
@@ -70,18 +61,14 @@ lines_more : (steps : List Step) (step : Step) → step_lines (steps ++ (step �
 lines_more [] step = append-nil (step_line step)
 lines_more (s ∷ ss) step = rw (lines_more ss step) (sym (append_assoc (step_line s) (step_lines ss) (step_line step)))
 
--- a turn of the loop over steps: i steps of s are listed, and the next stands at index `next` of the file
+-- one step more: i steps of s are listed, and the next stands at index `next` of the file
 module _ (panel : ℕ) (file s : List ℕ) (i next : ℕ) (here : drop next file ≡ rest_of panel i s) where
-  pub lines_turn : {at : ℕ} {out : List ℕ} {e₁ : ℕ} {o₁ : List ℕ} {e₂ : ℕ} {o₂ : List ℕ}
-      → Appended (step_lines (steps_of panel i s)) at out e₁ o₁ → Appended (step_line (step_of panel (drop next file))) e₁ o₁ e₂ o₂
-      → e₁ ≤ length out → Appended (step_lines (steps_of panel (i + 1) s)) at out e₂ o₂
-  lines_turn a b h =
-      let e : step_lines (steps_of panel (i + 1) s) ≡ step_lines (steps_of panel i s) ++ step_line (step_of panel (drop next file)) =
+  pub lines_turn : step_lines (steps_of panel (i + 1) s) ≡ step_lines (steps_of panel i s) ++ step_line (step_of panel (drop next file))
+  lines_turn =
       ap (λ (n : ℕ). step_lines (steps_of panel n s)) (add-one i)
       ∙ ap step_lines (steps_more panel i s)
       ∙ lines_more (steps_of panel i s) (step_of panel (rest_of panel i s))
-      ∙ ap (λ (r : List ℕ). step_lines (steps_of panel i s) ++ step_line (step_of panel r)) (sym here) in
-      appended_as (sym e) (appended_next a b h)
+      ∙ ap (λ (r : List ℕ). step_lines (steps_of panel i s) ++ step_line (step_of panel r)) (sym here)
 
   pub rest_turn : (z : ℕ) → z ≡ size_of (step_of panel (drop next file)) → drop (next + z) file ≡ rest_of panel (i + 1) s
   rest_turn z e = rw (← drop-drop z next file, e, here, add-one i) (sym (rest_more panel i s))

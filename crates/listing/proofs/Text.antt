@@ -11,8 +11,6 @@ use lib.Dec.{ltb}
 use lib.ListN.{length, get_or, take, length-append}
 use lib.Seq.{take-suc}
 use Rattle.listing.specs.Text.{ascii, digit, hex_byte, spaced_bytes, decimal}
-use Rattle.listing.specs.Appended.{Appended}
-use Rattle.listing.proofs.Appended.{appended_next, appended_as}
 
 -- one byte more
 pub spaced_more : (bytes : List ℕ) (byte : ℕ) → spaced_bytes (bytes ++ (byte ∷ [])) ≡ spaced_bytes bytes ++ (ascii " " ++ hex_byte byte)
@@ -48,11 +46,7 @@ pub decimal_short : (n : ℕ) → length (decimal n) ≤ 4
 decimal_short n =
     short (ltb n 10) _ _ (omega arith) (short (ltb n 100) _ _ (omega arith) (short (ltb n 1000) _ _ (omega arith) (omega arith)))
 
--- a turn of the loop over bytes
-pub spaced_turn : (bytes : List ℕ) (i : ℕ) {at : ℕ} {out : List ℕ} {e₁ : ℕ} {o₁ : List ℕ} {e₂ : ℕ} {o₂ : List ℕ}
-    → Appended (spaced_bytes (take i bytes)) at out e₁ o₁ → Appended (ascii " " ++ hex_byte (get_or bytes i 0)) e₁ o₁ e₂ o₂
-    → i < length bytes → e₁ ≤ length out → Appended (spaced_bytes (take (i + 1) bytes)) at out e₂ o₂
-spaced_turn bytes i a b l h =
-    let e : spaced_bytes (take (i + 1) bytes) ≡ spaced_bytes (take i bytes) ++ (ascii " " ++ hex_byte (get_or bytes i 0)) =
-    rw (add-one i, take-suc bytes i 0 l) (spaced_more (take i bytes) (get_or bytes i 0)) in
-    appended_as (sym e) (appended_next a b h)
+-- one byte more of a list of them
+pub spaced_turn : (bytes : List ℕ) (i : ℕ) → i < length bytes
+    → spaced_bytes (take (i + 1) bytes) ≡ spaced_bytes (take i bytes) ++ (ascii " " ++ hex_byte (get_or bytes i 0))
+spaced_turn bytes i l = rw (add-one i, take-suc bytes i 0 l) (spaced_more (take i bytes) (get_or bytes i 0))

@@ -1,4 +1,3 @@
 -- A settings file as text.
 pub mod Text
 pub mod Listing
-pub mod Appended

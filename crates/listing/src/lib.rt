@@ -2,8 +2,10 @@
 #![tactic(auto)]
 
 ghost use Rattle.std.specs.Prelude.{◌≡◌, ◌+◌, ◌*◌, ◌%◌, ◌<◌, ◌≤◌, ◌++◌, length, drop};
-ghost use Rattle.settings.specs.Settings.{write, step_of, steps_of};
-ghost use Rattle.listing.specs.Text.{ascii, digit, hex_byte, decimal, spaced_bytes, newline};
+ghost use Rattle.arrayvec.specs.ArrayVec.{array_vec_len};
+ghost use Rattle.panel.specs.Names.{panel_code};
+ghost use Rattle.settings.specs.Settings.{write, step_of, size_of, steps_of};
+ghost use Rattle.listing.specs.Text.{digit, decimal, spaced_bytes, newline};
 ghost use Rattle.listing.specs.Listing.{
   panel_line,
   step_line,
@@ -13,26 +15,33 @@ ghost use Rattle.listing.specs.Listing.{
   listing,
   listed,
 };
-ghost use Rattle.listing.specs.Appended.{Appended};
-ghost use Rattle.settings.specs.Plans.{SectionIn, PlanOf};
+ghost use Rattle.settings.specs.Plans.{SectionIn};
 
-use settings::{Kind, Plan, Section};
+use arrayvec::ArrayVec;
+use panel::Panel;
+use refusal::Refusal;
+use settings::{AcceptedFile, Kind, Section};
 
-// Puts text into `out` from index `at` on, and answers the index after it. All functions here do so, each with its own text.
-fn put_text(out: &mut [u8], at: usize, text: &[u8]) -> usize
-    requires { at + length text.now ≤ length out.old }
-    ensures { Appended text.now at out.old result out.new }
+// The text so far, with room for the longest listing. Each function here puts its own text after it, and asks for the room in its contract:
+// memory is fixed (no heap).
+type Page = ArrayVec<u8, 2145>;
+
+fn put_text(page: &mut Page, text: &[u8])
+    requires { array_vec_len page.old + length text.now ≤ 2145 }
+    ensures { page.new.items ≡ page.old.items ++ text.now }
 {
-    lists::put_at(out, at, text);
-    at + text.len()
+    page.try_extend_from_slice(text).unwrap();
 }
 
-// A digit below 16.
+// A digit below 16. Digits are put by hand, no write! with a format: it may fail on a page of fixed room, and this text may not.
 fn digit_of(d: u8) -> u8
     requires { d < 16 }
     ensures { result ≡ digit d }
 {
-    if d < 10 { 48 + d } else { 55 + d }
+    match d {
+        0..=9 => b'0' + d,
+        _ => b'A' + (d - 10),
+    }
 }
 
 // The last decimal digit of a number.
@@ -43,172 +52,144 @@ fn last_digit(n: u16) -> u8
 }
 
 // A number in decimal.
-fn put_decimal(out: &mut [u8], at: usize, n: u16) -> usize
-    requires { (n < 10000) × (at + 4 ≤ length out.old) }
-    ensures { Appended (decimal n) at out.old result out.new }
+fn put_decimal(page: &mut Page, n: u16)
+    requires { (n < 10000) × (array_vec_len page.old + 4 ≤ 2145) }
+    ensures { page.new.items ≡ page.old.items ++ decimal n }
 {
-    let ones = last_digit(n);
-    if n < 10 {
-        let text = [ones];
-        return put_text(out, at, &text);
-    }
-    let tens = last_digit(n / 10);
-    if n < 100 {
-        let text = [tens, ones];
-        return put_text(out, at, &text);
-    }
-    let hundreds = last_digit(n / 100);
-    if n < 1000 {
-        let text = [hundreds, tens, ones];
-        return put_text(out, at, &text);
-    }
-    let text = [last_digit(n / 1000), hundreds, tens, ones];
-    put_text(out, at, &text)
-}
-
-// A byte in hexadecimal, after a space.
-fn put_spaced_byte(out: &mut [u8], at: usize, byte: u8) -> usize
-    requires { at + 3 ≤ length out.old }
-    ensures { Appended (ascii " " ++ hex_byte byte) at out.old result out.new }
-{
-    let text = [b' ', digit_of(byte / 16), digit_of(byte % 16)];
-    put_text(out, at, &text)
+    let digits = [
+        last_digit(n / 1000),
+        last_digit(n / 100),
+        last_digit(n / 10),
+        last_digit(n),
+    ];
+    let first = match n {
+        0..=9 => 3,
+        10..=99 => 2,
+        100..=999 => 1,
+        _ => 0,
+    };
+    put_text(page, &digits[first..]);
 }
 
 // Bytes in hexadecimal, each after a space.
-fn put_spaced_bytes(out: &mut [u8], at: usize, bytes: &[u8]) -> usize
-    requires { (at + 3 * length bytes.now ≤ length out.old) × (length bytes.now ≤ 255) }
-    ensures { Appended (spaced_bytes bytes.now) at out.old result out.new }
+fn put_spaced_bytes(page: &mut Page, bytes: &[u8])
+    requires { array_vec_len page.old + 3 * length bytes.now ≤ 2145 }
+    ensures { page.new.items ≡ page.old.items ++ spaced_bytes bytes.now }
 {
-    let mut end = at;
-    let mut i = 0;
-    while i < bytes.len() {
-        end = put_spaced_byte(out, end, bytes[i]);
-        i += 1;
+    for byte in bytes {
+        put_text(page, &[b' ', digit_of(byte / 16), digit_of(byte % 16)]);
     }
-    end
 }
 
 // A write's line.
-fn put_write_line(out: &mut [u8], at: usize, register: u8, bytes: &[u8]) -> usize
-    requires { (at + 33 ≤ length out.old) × (length bytes.now ≤ 8) }
-    ensures { Appended (step_line (write register bytes.now)) at out.old result out.new }
+fn put_write_line(page: &mut Page, register: u8, bytes: &[u8])
+    requires { (array_vec_len page.old + 33 ≤ 2145) × (length bytes.now ≤ 8) }
+    ensures { page.new.items ≡ page.old.items ++ step_line (write register bytes.now) }
 {
-    let word = put_text(out, at, b"write");
-    let head = put_spaced_byte(out, word, register);
-    let end = put_spaced_bytes(out, head, bytes);
-    put_text(out, end, b"\n")
+    put_text(page, b"write");
+    put_spaced_bytes(page, &[register]);
+    put_spaced_bytes(page, bytes);
+    put_text(page, b"\n");
 }
 
 // A line of a word and a number.
-fn put_number_line(out: &mut [u8], at: usize, word: &[u8], n: u16) -> usize
-    requires { (n < 10000) × (at + length word.now + 5 ≤ length out.old) }
-    ensures { Appended (word.now ++ decimal n ++ newline) at out.old result out.new }
+fn put_number_line(page: &mut Page, word: &[u8], n: u16)
+    requires { (n < 10000) × (array_vec_len page.old + length word.now + 5 ≤ 2145) }
+    ensures { page.new.items ≡ page.old.items ++ (word.now ++ decimal n ++ newline) }
 {
-    let head = put_text(out, at, word);
-    let end = put_decimal(out, head, n);
-    put_text(out, end, b"\n")
+    put_text(page, word);
+    put_decimal(page, n);
+    put_text(page, b"\n");
 }
 
-// The line of the step at index `from` of a file.
-fn put_step(out: &mut [u8], at: usize, file: &[u8], panel: usize, from: usize) -> usize
-    requires { (panel < 3) × (from ≤ length file.now) × (at + 33 ≤ length out.old) }
-    ensures { Appended (step_line (step_of panel (drop from file.now))) at out.old result out.new }
+// The line of the step at index `at` of a file, if there is one. Answers the index after the step.
+fn put_step(page: &mut Page, accepted: AcceptedFile, at: usize) -> usize
+    requires { (at ≤ length accepted.file.now) × (array_vec_len page.old + 33 ≤ 2145) }
+    ensures line { page.new.items ≡ page.old.items ++ step_line (step_of (panel_code accepted.entry.plan.panel) (drop at accepted.entry.file.now)) }
+    ensures after { result ≡ at + size_of (step_of (panel_code accepted.entry.plan.panel) (drop at accepted.entry.file.now)) }
 {
-    let kind = settings::step_at(file, from, panel);
+    let Some(kind) = accepted.step_at(at) else {
+        return at;
+    };
+    let after = at + kind.size();
     match kind {
-        Kind::Write(register) => {
-            let bytes = settings::data_of(file, panel, from, register);
-            put_write_line(out, at, register, bytes)
-        }
-        Kind::Wait(ms) => put_number_line(out, at, b"wait ", ms),
-        Kind::Malformed => at,
+        Kind::Write(register) => put_write_line(page, register, accepted.data_of(at, register)),
+        Kind::Wait(ms) => put_number_line(page, b"wait ", ms),
     }
+    after
 }
 
-// The lines of n steps, from index `from` of a file on.
-fn put_steps(out: &mut [u8], at: usize, file: &[u8], panel: usize, from: usize, n: usize) -> usize
-    requires { (panel < 3) × (from ≤ length file.now) × (n ≤ 255) × (at + 33 * n ≤ length out.old) }
-    ensures { Appended (step_lines (steps_of panel n (drop from file.now))) at out.old result out.new }
+// The lines of n steps, from index `at` of a file on.
+fn put_steps(page: &mut Page, accepted: AcceptedFile, at: usize, n: usize)
+    requires { (at ≤ length accepted.file.now) × (array_vec_len page.old + 33 * n ≤ 2145) }
+    ensures { page.new.items ≡ page.old.items ++ step_lines (steps_of (panel_code accepted.entry.plan.panel) n (drop at accepted.entry.file.now)) }
 {
-    let mut end = at;
-    let mut next = from;
-    let mut i = 0;
-    while i < n {
-        end = put_step(out, end, file, panel, next);
-        next += settings::size(settings::step_at(file, next, panel));
-        i += 1;
+    let mut next = at;
+    for _ in 0..n {
+        next = put_step(page, accepted, next);
     }
-    end
 }
 
 // The panel's line.
-fn put_panel_line(out: &mut [u8], at: usize, panel: usize) -> usize
-    requires { (panel < 3) × (at + 11 ≤ length out.old) }
-    ensures { Appended (panel_line panel) at out.old result out.new }
+fn put_panel_line(page: &mut Page, panel: Panel)
+    requires { array_vec_len page.old + 11 ≤ 2145 }
+    ensures { page.new.items ≡ page.old.items ++ panel_line (panel_code panel) }
 {
-    if panel == 0 {
-        return put_text(out, at, b"panel 1.44\n");
+    match panel {
+        Panel::Inch144 => put_text(page, b"panel 1.44\n"),
+        Panel::Inch200 => put_text(page, b"panel 2\n"),
+        Panel::Inch270 => put_text(page, b"panel 2.7\n"),
     }
-    if panel == 1 {
-        return put_text(out, at, b"panel 2\n");
-    }
-    put_text(out, at, b"panel 2.7\n")
 }
 
 // The lines of a section: a word and the count of its steps, then the steps.
-fn put_section(
-    out: &mut [u8],
-    at: usize,
-    word: &[u8],
-    file: &[u8],
-    panel: usize,
-    section: Section,
-) -> usize
-    requires { SectionIn panel file.now section × (length word.now ≤ 6) × (at + 1067 ≤ length out.old) }
-    ensures { Appended
-        (section_lines word.now section.count
-        (steps_of panel section.count (drop section.at file.now)))
-        at out.old result out.new }
+fn put_section(page: &mut Page, word: &[u8], accepted: AcceptedFile, section: Section)
+    requires { SectionIn (panel_code accepted.plan.panel) accepted.file.now section × (length word.now ≤ 6) × (array_vec_len page.old + 1067 ≤ 2145) }
+    ensures { page.new.items
+        ≡ page.old.items
+        ++ section_lines word.now section.count (steps_of (panel_code accepted.entry.plan.panel) section.count (drop section.at accepted.entry.file.now)) }
 {
-    let n = section.count;
-    let end = put_number_line(out, at, word, n as u16);
-    put_steps(out, end, file, panel, section.at, n)
+    put_number_line(page, word, section.count as u16);
+    put_steps(page, accepted, section.at, section.count);
 }
 
-// The lines of an accepted file, of which `plan` is the plan.
-fn put_file(out: &mut [u8], file: &[u8], plan: Plan) -> usize
-    requires { (2145 ≤ length out.old) × PlanOf file.now plan }
-    ensures { Appended (file_lines file.now) 0 out.old result out.new }
+// The lines of an accepted file.
+fn put_file(page: &mut Page, accepted: AcceptedFile)
+    requires { array_vec_len page.old ≡ 0 }
+    ensures { page.new.items ≡ page.old.items ++ file_lines accepted.entry.file.now }
 {
-    let head = put_panel_line(out, 0, plan.panel);
-    let start = put_section(out, head, b"start ", file, plan.panel, plan.start);
-    put_section(out, start, b"stop ", file, plan.panel, plan.stop)
+    put_panel_line(page, accepted.plan.panel);
+    put_section(page, b"start ", accepted, accepted.plan.start);
+    put_section(page, b"stop ", accepted, accepted.plan.stop);
 }
 
-// A listing: the first `len` bytes of `text`.
+fn put_listing(page: &mut Page, file: &[u8])
+    requires { array_vec_len page.old ≡ 0 }
+    ensures { page.new.items ≡ page.old.items ++ listing file.now }
+{
+    match settings::plan_of(file) {
+        Some(plan) => put_file(page, AcceptedFile { file, plan }),
+        None => put_number_line(page, b"refused ", u16::from(Refusal::Settings.number())),
+    }
+}
+
+// A listing: the first `len` bytes of `text`. Not the page itself: `listed`, of which docs and theorems speak, gives these two.
 #[derive(Clone, Copy)]
 pub struct Listing {
     pub text: [u8; 2145],
     pub len: usize,
 }
 
-fn put_listing(out: &mut [u8], file: &[u8]) -> usize
-    requires { 2145 ≤ length out.old }
-    ensures { Appended (listing file.now) 0 out.old result out.new }
-{
-    let planned = settings::plan_of(file);
-    if !planned.ok {
-        return put_text(out, 0, b"refused 2\n");
-    }
-    put_file(out, file, planned.plan)
-}
-
 // The listing of any file.
 pub fn listing_of(file: &[u8]) -> Listing
     ensures { result ≡ listed file.now }
 {
+    let mut page = Page::new();
+    put_listing(&mut page, file);
     let mut text = [0u8; 2145];
-    let len = put_listing(&mut text, file);
-    Listing { text, len }
+    lists::put_at(&mut text, 0, &page);
+    Listing {
+        text,
+        len: page.len(),
+    }
 }

@@ -4,5 +4,6 @@ pub mod Lists
 pub mod Parts
 pub mod Elements
 pub mod Rules
+pub mod Ranges
 pub mod Cases
 pub mod Calls

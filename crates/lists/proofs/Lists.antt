@@ -7,7 +7,7 @@ use Prim.Native.Nat.{ℕ, zero, suc, ◌+◌, ◌≤◌, ◌<◌}
 use native.Mathlib.Nat.{add_assoc, eq-or-lt_of_le, not-suc-le-zero, le_of_suc-le-suc}
 use native.Mathlib.Numerals.{add-one}
 use native.Mathlib.Omega.{arith}
-use lib.ListN.{length, get_or, set, take, drop, replicate, length-append, length-drop, take-append-drop, drop_of_length-le, length-replicate, replicate-append-replicate, get_or-append}
+use lib.ListN.{length, get_or, set, take, drop, length-append, length-drop, take-append-drop, drop_of_length-le, get_or-append}
 use lib.Seq.{drop-cons, set_at, append_snoc, get_or_at, length-take-le, take_at, drop_at, drop-drop, ext_get_or, take-suc}
 use Rattle.lists.specs.Lists.{tabulate, overlay, overlay_at}
 
@@ -110,7 +110,7 @@ module _ (at : ℕ) (out : List ℕ) where
       (append_assoc (take at out) bytes (overlay next (drop end out))
       ∙ rw (append_assoc bytes next, length-append, drop-drop, drop-drop, e, ← add_assoc))
 
-  -- the turns of the three loops: over a table, over a copy, and over one value
+  -- the turns of two loops: over a table, and over a copy
   pub table_more : (f : ℕ → ℕ) (d : List ℕ) (j i v : ℕ) → d ≡ overlay_at at (tabulate j f) out → i ≡ at + j → v ≡ f j → i < length out
       → set d i v ≡ overlay_at at (tabulate (j + 1) f) out
   table_more f d j i v e p w h =
@@ -121,9 +121,3 @@ module _ (at : ℕ) (out : List ℕ) where
   copy_more bytes d j i e p l h =
       rw (add-one, take-suc bytes j 0 l)
       (overlay_at_more (take j bytes) d i (get_or bytes j 0) e (p ∙ ap (λ (n : ℕ). at + n) (sym (length-take-le j bytes (omega arith)))) h)
-
-  pub fill_more : (d : List ℕ) (j i v : ℕ) → d ≡ overlay_at at (replicate j v) out → i ≡ at + j → i < length out
-      → set d i v ≡ overlay_at at (replicate (j + 1) v) out
-  fill_more d j i v e p h =
-      rw (← replicate-append-replicate j 1 v)
-      (overlay_at_more (replicate j v) d i v e (p ∙ ap (λ (n : ℕ). at + n) (sym (length-replicate j v))) h)

@@ -1,5 +1,6 @@
 -- Laws of the answer: each refusal, and the mended file and its list where none applies.
 -- Assumes nothing.
+use Rattle.std.proofs.Common.{Option}
 use mathlib.Core.Path.{◌≡◌}
 use mathlib.Core.Bool.{true, false}
 use mathlib.Core.List.{List}
@@ -14,8 +15,7 @@ use Rattle.bitmap.specs.Palettes.{palette_of}
 use Rattle.bitmap.specs.Header.{header_length, file_length}
 use Rattle.mend.specs.Mending.{mendable, mended_header, white_byte, byte_by, mended_byte}
 use Rattle.mend.specs.Changes.{changed, listed}
-use Rattle.mend.specs.Answers.{changes, refusal, acceptance, mending_of, mending}
-use Rattle.mend.specs.declared.Mended.{Mended}
+use Rattle.mend.specs.Answers.{Told, changes, refusal, acceptance, mending_of, mending}
 use Rattle.mend.proofs.Fields.{mend_tests}
 
 -- what a file that can be mended has
@@ -33,7 +33,7 @@ lengths b h s file e =
     }
 
 -- the rule by a header and a byte that were made before
-pub same_rule : (b h s : ℕ) (file : List ℕ) {header : List ℕ} {white : ℕ} {palette : Palette} → header ≡ mended_header b h s file
+pub same_rule : (b h s : ℕ) (file : List ℕ) {header : List ℕ} {white : ℕ} {palette : Option Palette} → header ≡ mended_header b h s file
     → white ≡ white_byte palette → palette ≡ palette_of file → byte_by b s header white file ≡ mended_byte b h s file
 same_rule b h s file e f g = rw (e, f, g)
 
@@ -55,7 +55,7 @@ module _ (b h s : ℕ) (file out list : List ℕ) where
           let m : length list < 4 * length (changes b h s file) = rw (e, same) at l in
           rw (good, le-ltb (length out) (file_length h s) room, lt-ltb (length list) (4 * length (changes b h s file)) m)
 
-      pub mended : {r : Mended} {out' list' : List ℕ} (n : ℕ) → n ≡ length (changed file rule (length file)) → 4 * n ≤ length list
+      pub mended : {r : Told} {out' list' : List ℕ} (n : ℕ) → n ≡ length (changed file rule (length file)) → 4 * n ≤ length list
           → r ≡ acceptance (file_length h s) (length file) n → out' ≡ overlay (tabulate (file_length h s) rule) out
           → list' ≡ overlay (listed file rule (changed file rule (length file))) list → (r, out', list') ≡ mending_of b h s file out list
       unfolding mending_of

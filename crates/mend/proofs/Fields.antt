@@ -1,23 +1,20 @@
 -- Laws of what can be mended, of the loop over the table that mends the header, and of the bytes of the mended file.
 -- Assumes nothing.
 use mathlib.Core.Path.{◌≡◌, refl, sym, ap, ◌∙◌}
-use mathlib.Core.Bool.{Bool, true, false, and-false}
+use mathlib.Core.Bool.{Bool, true, and-false}
 use mathlib.Core.List.{List, [], ◌∷◌, ◌++◌, map}
 use Prim.Native.Nat.{ℕ, ◌+◌, ◌-◌, ◌%◌, ◌≤◌, ◌<◌}
 use native.Mathlib.Numerals.{add-one}
-use native.Mathlib.Omega.{arith}
-use borrow.Author.Tests.{lt-ltb, le-ltb, le-leb, lt-leb}
+use borrow.Author.Tests.{lt-ltb, le-ltb, le-leb}
 use lib.Dec.{leb}
 use lib.ListN.{length, get_or, take}
-use lib.Seq.{take-suc, length-take-le}
-use Rattle.lists.specs.Lists.{overlay_at}
+use lib.Seq.{take-suc}
 use Rattle.lists.specs.Rules.{every}
-use Rattle.lists.proofs.Lists.{overlay-whole}
-use Rattle.lists.proofs.Rules.{none, keep, broken, others, and_left, and_right, or_right}
+use Rattle.lists.proofs.Rules.{none, keep, others, and_left, and_right, or_right}
 use Rattle.bitmap.specs.declared.Field.{Field}
 use Rattle.bitmap.specs.Palettes.{palette_of, black_and_white}
-use Rattle.bitmap.specs.Header.{header_length, file_length, header_fields, field_good}
-use Rattle.bitmap.proofs.Fields.{no_field, field_at, tests}
+use Rattle.bitmap.specs.Header.{header_length, file_length, field_good}
+use Rattle.bitmap.proofs.Fields.{tests}
 use Rattle.mend.specs.Mending.{is_mended, field_mendable, mendable, mend_field, mend_fields, byte_by}
 
 -- ---- what can be mended
@@ -30,18 +27,6 @@ module _ (b h s : ℕ) (file : List ℕ) where
   abbrev pub mend_tests : List Bool
   mend_tests =
       leb header_length (length file) ∷ leb (length file) (file_length h s) ∷ black_and_white (palette_of file) ∷ field_tests
-
-  pub too_short_lem : length file < header_length → false ≡ mendable b h s file
-  unfolding mendable
-  too_short_lem l = sym (broken 0 mend_tests (lt-leb header_length (length file) l))
-
-  pub too_long : file_length h s < length file → false ≡ mendable b h s file
-  unfolding mendable
-  too_long l = sym (broken 1 mend_tests (lt-leb (length file) (file_length h s) l))
-
-  pub wrong_palette : black_and_white (palette_of file) ≡ false → false ≡ mendable b h s file
-  unfolding mendable
-  wrong_palette e = sym (broken 2 mend_tests e)
 
   pub fields_decide : header_length ≤ length file → length file ≤ file_length h s → black_and_white (palette_of file) ≡ true
       → mendable b h s file ≡ every field_tests
@@ -71,24 +56,15 @@ mend_append : (file : List ℕ) (fields : List Field) (f : Field) (x : List ℕ)
 mend_append file [] f x = refl
 mend_append file (g ∷ fields) f x = mend_append file fields f (mend_field file g x)
 
--- the file's own header stands there first
-pub header_copied : (file old : List ℕ) {x : List ℕ} → length old ≡ header_length → header_length ≤ length file
-    → x ≡ overlay_at 0 (take header_length file) old → x ≡ take header_length file
-header_copied file old e l p =
-    p ∙ overlay-whole (take header_length file) old (omega (arith, length-take-le header_length file l))
-
 -- one field more
-pub mend_next : (b h s : ℕ) (file : List ℕ) (i : ℕ) → i < 17 → (f : Field) → f ≡ field_at b h s i → (x : List ℕ) {d e : List ℕ}
-    → d ≡ mend_fields file (take i (header_fields b h s)) x → e ≡ mend_field file f d
-    → e ≡ mend_fields file (take (i + 1) (header_fields b h s)) x
-mend_next b h s file i low f is x p q =
-    let fields : List Field = header_fields b h s in
+pub mend_next : (file : List ℕ) (fields : List Field) (i : ℕ) → i < length fields → (d : Field) (x : List ℕ) {y z : List ℕ}
+    → y ≡ mend_fields file (take i fields) x → z ≡ mend_field file (get_or fields i d) y → z ≡ mend_fields file (take (i + 1) fields) x
+mend_next file fields i low d x p q =
     rw add-one
     (q
-    ∙ ap (mend_field file f) p
-    ∙ ap (λ (g : Field). mend_field file g (mend_fields file (take i fields) x)) is
-    ∙ sym (mend_append file (take i fields) (field_at b h s i) x)
-    ∙ ap (λ (l : List Field). mend_fields file l x) (sym (take-suc fields i no_field low)))
+    ∙ ap (mend_field file (get_or fields i d)) p
+    ∙ sym (mend_append file (take i fields) (get_or fields i d) x)
+    ∙ ap (λ (l : List Field). mend_fields file l x) (sym (take-suc fields i d low)))
 
 -- ---- the bytes of the mended file
 

@@ -1,6 +1,7 @@
 -- Laws of the mended file, for any row bytes b, rows h and stride s: the check accepts it, its padding is 0, and an accepted file with zero
 -- padding is mended to itself.
 -- Assumes nothing.
+use Rattle.std.proofs.Common.{Option, Some, None}
 use mathlib.Core.Path.{◌≡◌, refl, sym, ap, ◌∙◌}
 use mathlib.Core.Bool.{Bool, true, false, cond, not, ◌||◌, or-true}
 use mathlib.Core.List.{List, [], ◌∷◌, ◌++◌, map}
@@ -19,7 +20,7 @@ use Rattle.bitmap.specs.declared.Also.{Also}
 use Rattle.bitmap.specs.declared.Also.TheVariants.{Only, Or}
 use Rattle.bitmap.specs.declared.Field.{Field}
 use Rattle.bitmap.specs.declared.Palette.{Palette}
-use Rattle.bitmap.specs.declared.Palette.TheVariants.{BlackFirst, WhiteFirst, Neither}
+use Rattle.bitmap.specs.declared.Palette.TheVariants.{BlackFirst, WhiteFirst}
 use Rattle.bitmap.specs.Numbers.{number_at, number_bytes}
 use Rattle.bitmap.specs.Palettes.{palette_of, black_and_white, dots_of}
 use Rattle.bitmap.specs.Header.{field, header_length, file_length, header_fields, also_good, field_good}
@@ -172,10 +173,10 @@ module _ (b h s : ℕ) (low : h ≤ 176) (stride : s ≤ 36) (file : List ℕ) (
       (byte_mended b h s file k f ∙ byte_missing b s (mended_header b h s file) (white_byte (palette_of file)) file k after row l)
       ∙ white_dots (palette_of file)
     where
-      white_dots : (palette : Palette) → dots_of palette (white_byte palette) ≡ 0xFF
-      white_dots BlackFirst = refl
-      white_dots WhiteFirst = refl
-      white_dots Neither = refl
+      white_dots : (palette : Option Palette) → dots_of palette (white_byte palette) ≡ 0xFF
+      white_dots (Some BlackFirst) = refl
+      white_dots (Some WhiteFirst) = refl
+      white_dots None = refl
 
   pub byte_after : (k : ℕ) → length file ≤ k → k < file_length h s → b ≤ (k - header_length) % s → get_or (mended_file b h s file) k 0 ≡ 0
   byte_after k l = padding_byte b h s file k (omega (arith, long))

@@ -19,9 +19,8 @@ use Rattle.bitmap.specs.Bitmap.{bitmap_good, check_bitmap}
 use Rattle.bitmap.proofs.Check.{rows-small, check_file}
 use Rattle.mend.specs.Mending.{mendable, mended_byte, mended_file, ZeroPadding, elsewhere}
 use Rattle.mend.specs.Changes.{offsets_in, rising, without_added}
-use Rattle.mend.specs.Answers.{changes, change_list, refusal, acceptance, mend_cases, mending_of, mending}
+use Rattle.mend.specs.Answers.{Told, changes, change_list, refusal, acceptance, mend_cases, mending_of, mending}
 use Rattle.mend.specs.Promises.{full_length, restored, nothing_done, NothingToMend, Promised}
-use Rattle.mend.specs.declared.Mended.{Mended}
 use Rattle.mend.proofs.Changes.{count_le, in_order_lem, offsets_back, undo_all, unlisted_stays}
 use Rattle.mend.proofs.Few.{changes-few}
 use Rattle.mend.proofs.Calls.{lengths, mended, of_panel}
@@ -41,7 +40,7 @@ module _ (panel : ℕ) where
   -- ---- a call is refused, or the file can be mended
 
   -- what an accepted call leaves
-  abbrev accepting : (file out list : List ℕ) → Mended × List ℕ × List ℕ
+  abbrev accepting : (file out list : List ℕ) → Told × List ℕ × List ℕ
   accepting file out list = (
     acceptance (full_length panel) (length file) (length (changes b h s file)),
     overlay (mended_file b h s file) out,
@@ -49,7 +48,7 @@ module _ (panel : ℕ) where
   )
 
   -- what holds of both holds of every call
-  pub by_answer : (P : Mended × List ℕ × List ℕ → Type 0) (file out list : List ℕ)
+  pub by_answer : (P : Told × List ℕ × List ℕ → Type 0) (file out list : List ℕ)
       → ((n : ℕ) → (n ≡ 0 → ⊥) → P (refusal n, out, list))
       → (is_panel panel ≡ true → mendable b h s file ≡ true → P (accepting file out list)) → P (mending panel file out list)
   unfolding mending mending_of
@@ -64,14 +63,14 @@ module _ (panel : ℕ) where
       first : {test : Bool} {n : ℕ} {cs : List Case} → None (case test n ∷ cs) → test ≡ false
       first (past e rest) = e
 
-  pub record Accepted (file out list : List ℕ) (left : Mended × List ℕ × List ℕ) : Type 0 where
+  pub record Accepted (file out list : List ℕ) (left : Told × List ℕ × List ℕ) : Type 0 where
     pub is-panel : is_panel panel ≡ true
     pub can : mendable b h s file ≡ true
     pub answer : left ≡ accepting file out list
 
   accepted : (file out list : List ℕ) → (mending panel file out list).0.number ≡ 0 → Accepted file out list (mending panel file out list)
   accepted file out list =
-      by_answer (λ (left : Mended × List ℕ × List ℕ). left.0.number ≡ 0 → Accepted file out list left) file out list
+      by_answer (λ (left : Told × List ℕ × List ℕ). left.0.number ≡ 0 → Accepted file out list left) file out list
       (λ n d e. absurd (d e))
       (λ p c e. record { is-panel = p; can = c; answer = refl })
 
@@ -183,7 +182,7 @@ module _ (panel : ℕ) where
   pub answer-small : (file out list : List ℕ)
       → let a = (mending panel file out list).0 in (a.changes ≤ 6398) × (a.offset ≤ 6398) × (a.added ≤ 6398)
   answer-small file out list =
-      by_answer (λ (left : Mended × List ℕ × List ℕ). (left.0.changes ≤ 6398) × (left.0.offset ≤ 6398) × (left.0.added ≤ 6398)) file out list
+      by_answer (λ (left : Told × List ℕ × List ℕ). (left.0.changes ≤ 6398) × (left.0.offset ≤ 6398) × (left.0.added ≤ 6398)) file out list
       (λ n d. (omega arith, omega arith, omega arith))
       (λ p c.
       let small : h * s ≤ 6336 = rows-small h s (rows-le panel) (stride_le panel) in
@@ -196,9 +195,9 @@ module _ (panel : ℕ) where
       offset_small len full most l (no q) = let k : full ≤ len = omega arith in rw (le-ltb len full k) (omega arith)
 
 -- a contract's equation with `mending` gives what is promised of it
-pub promised_of : (panel : ℕ) (file out list : List ℕ) {answer : Mended} {out' list' : List ℕ} → (answer, out', list') ≡ mending panel file out list
+pub promised_of : (panel : ℕ) (file out list : List ℕ) {answer : Told} {out' list' : List ℕ} → (answer, out', list') ≡ mending panel file out list
     → answer.number ≡ 0 → Promised panel file answer (take (full_length panel) out') list'
 promised_of panel file out list e z =
-    let called : Mended × List ℕ × List ℕ = mending panel file out list in
-    let n : called.0.number ≡ 0 = ap (λ (c : Mended × List ℕ × List ℕ). c.0.number) (sym e) ∙ z in
-    subst (λ (c : Mended × List ℕ × List ℕ). Promised panel file c.0 (take (full_length panel) c.1) c.2) (sym e) (promised panel file out list n)
+    let called : Told × List ℕ × List ℕ = mending panel file out list in
+    let n : called.0.number ≡ 0 = ap (λ (c : Told × List ℕ × List ℕ). c.0.number) (sym e) ∙ z in
+    subst (λ (c : Told × List ℕ × List ℕ). Promised panel file c.0 (take (full_length panel) c.1) c.2) (sym e) (promised panel file out list n)

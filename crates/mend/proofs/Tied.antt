@@ -10,8 +10,8 @@ use Rattle.lists.proofs.Calls.{Call, AsksNothing}
 use Rattle.panel.specs.Panels.{rows_of, row_bytes_of, stride_of}
 use Rattle.bitmap.specs.Bitmap.{check_bitmap}
 use Rattle.mend.specs.Mending.{ZeroPadding}
+use Rattle.mend.specs.Answers.{Told, told_by}
 use Rattle.mend.specs.Promises.{full_length, nothing_done, Promised}
-use Rattle.mend.specs.declared.Mended.{Mended}
 use Rattle.mend.proofs.Theorems.{good_file, promised_of}
 use Rattle.mend.proofs.mend.Kinds as mend-kinds
 use Rattle.mend.proofs.mend.Reads as mend-reads
@@ -40,13 +40,13 @@ module _ (c : MendCall) where
   list_after = c.exit.1.1.1.0.now
 
   -- a call that answers number 0
-  pub mend_tied : c.result.number ≡ 0 → Promised panel_of file_of c.result (take (full_length panel_of) out_after) list_after
+  pub mend_tied : (told_by c.result).number ≡ 0 → Promised panel_of file_of (told_by c.result) (take (full_length panel_of) out_after) list_after
   mend_tied z = promised_of panel_of file_of out_of list_of c.promised z
 
   -- a call on a file that the check accepts, with zero padding and with room for the file
   pub good_tied : check_bitmap panel_of file_of ≡ 0 → ZeroPadding (row_bytes_of panel_of) (rows_of panel_of) (stride_of panel_of) file_of
       → full_length panel_of ≤ length out_of
-      → ◌≡◌ {A = Mended × List ℕ × List ℕ} (c.result, out_after, list_after) (nothing_done, overlay file_of out_of, list_of)
+      → ◌≡◌ {A = Told × List ℕ × List ℕ} (told_by c.result, out_after, list_after) (nothing_done, overlay file_of out_of, list_of)
   good_tied e zeros room = rw (good_file panel_of file_of e zeros out_of list_of room) at c.promised
 
 -- and it asks nothing

@@ -1,12 +1,12 @@
 -- Request 2026-11: a damaged bitmap file, and the file that it is mended to. The picture has h rows of b bytes; in the file they are s
 -- bytes apart. The rules read the table of fields and the palette that the check reads.
 -- Assumes nothing.
-use Rattle.std.specs.Prelude.{◌≡◌, ℕ, ◌+◌, ◌-◌, ◌*◌, ◌%◌, ◌≤◌, ◌<◌, Bool, cond, not, ◌&&◌, ◌||◌, List, [], ◌∷◌, map, eqb, leb, ltb, length, get_or, take}
+use Rattle.std.specs.Prelude.{◌≡◌, ℕ, ◌+◌, ◌-◌, ◌*◌, ◌%◌, ◌≤◌, ◌<◌, Bool, cond, not, ◌&&◌, ◌||◌, List, [], ◌∷◌, map, eqb, leb, ltb, length, get_or, take, Option, Some, None}
 use Rattle.lists.specs.Lists.{tabulate, overlay_at}
 use Rattle.lists.specs.Rules.{every, some}
 use Rattle.bitmap.specs.Numbers.{number_bytes}
 use Rattle.bitmap.specs.declared.Palette.{Palette}
-use Rattle.bitmap.specs.declared.Palette.TheVariants.{BlackFirst, WhiteFirst, Neither}
+use Rattle.bitmap.specs.declared.Palette.TheVariants.{BlackFirst, WhiteFirst}
 use Rattle.bitmap.specs.Palettes.{palette_of, black_and_white}
 use Rattle.bitmap.specs.declared.Field.{Field}
 use Rattle.bitmap.specs.Header.{header_length, file_length, header_fields, field_good}
@@ -52,10 +52,10 @@ unfoldable pub mended_header : (b h s : ℕ) (file : List ℕ) → List ℕ
 mended_header b h s file = mend_fields file (header_fields b h s) (take header_length file)
 
 -- eight white dots, as a byte of a file with this palette; a file with neither is refused
-abbrev pub white_byte : Palette → ℕ
-white_byte BlackFirst = 0xFF
-white_byte WhiteFirst = 0x00
-white_byte Neither = 0xFF
+abbrev pub white_byte : Option Palette → ℕ
+white_byte (Some BlackFirst) = 0xFF
+white_byte (Some WhiteFirst) = 0x00
+white_byte None = 0xFF
 
 -- byte k of the mended file, by its header: after that, padding is 0, a missing byte is white, and any other is as it was
 unfoldable pub byte_by : (b s : ℕ) (header : List ℕ) (white : ℕ) (file : List ℕ) (k : ℕ) → ℕ

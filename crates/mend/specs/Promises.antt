@@ -9,19 +9,18 @@ use Rattle.bitmap.specs.Header.{header_length, file_length}
 use Rattle.bitmap.specs.Bitmap.{check_bitmap}
 use Rattle.mend.specs.Mending.{elsewhere}
 use Rattle.mend.specs.Changes.{offsets_in, rising, undone, without_added}
-use Rattle.mend.specs.Answers.{mending}
-use Rattle.mend.specs.declared.Mended.{Mended}
+use Rattle.mend.specs.Answers.{Told, mending}
 
 -- the length of a panel's files
 abbrev pub full_length : (panel : ℕ) → ℕ
 full_length panel = file_length (rows_of panel) (stride_of panel)
 
 -- the old file, from the answer, the mended file and the list: the changes undone, and the added bytes cut off
-abbrev pub restored : (answer : Mended) (mended list : List ℕ) → List ℕ
+abbrev pub restored : (answer : Told) (mended list : List ℕ) → List ℕ
 restored answer mended list = without_added answer.offset answer.added (undone answer.changes list mended)
 
 -- the answer where nothing is changed or added
-abbrev pub nothing_done : Mended
+abbrev pub nothing_done : Told
 nothing_done = record { number = 0; changes = 0; offset = 0; added = 0 }
 
 -- mending these bytes changes nothing, adds nothing and lists nothing
@@ -30,7 +29,7 @@ NothingToMend panel file =
     (out list : List ℕ) → full_length panel ≤ length out → mending panel file out list ≡ (nothing_done, overlay file out, list)
 
 -- Of a call that answered number 0 for `file`, where `mended` is the file that it put out and `list` its output for the list.
-pub record Promised (panel : ℕ) (file : List ℕ) (answer : Mended) (mended list : List ℕ) : Type 0 where
+pub record Promised (panel : ℕ) (file : List ℕ) (answer : Told) (mended list : List ℕ) : Type 0 where
   -- undoing the list and cutting off the added bytes gives the old file
   pub back : restored answer mended list ≡ file
   -- the mended file passes the check

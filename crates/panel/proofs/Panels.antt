@@ -6,7 +6,11 @@ use Prim.Native.Nat.{ℕ, ◌%◌, ◌≤◌, ◌<◌}
 use native.Mathlib.Omega.{arith}
 use Rattle.lists.proofs.Cases.{none, more, each, entry_lt}
 use Rattle.panel.specs.Panels.{rows_of, row_bytes_of, picture_bytes_of, frames_of, stride_of, shape_of}
-use Rattle.panel.specs.Facts.{Sized}
+use Rattle.panel.specs.Facts.{Sized, sizes}
+use Rattle.panel.specs.Names.{panel_code}
+use Rattle.panel.specs.declared.sizes.Shape.{Shape}
+use Rattle.panel.specs.declared.table.Panel.{Panel}
+use Rattle.panel.specs.declared.table.Panel.TheVariants.{Inch144, Inch200, Inch270}
 
 pub each_panel : (P : ℕ → Type 0) → P 0 → P 1 → P 2 → (panel : ℕ) → panel < 3 → P panel
 each_panel P a b c = each P 3 (more (more (more none a) b) c)
@@ -51,3 +55,23 @@ size_of =
     (sized 16 96 16 16 (omega arith) (omega arith) (omega arith) (omega arith) refl (omega arith) (omega arith) (omega arith) (omega arith))
     (sized 25 96 28 16 (omega arith) (omega arith) (omega arith) (omega arith) refl (omega arith) (omega arith) (omega arith) (omega arith))
     (sized 33 176 36 21 (omega arith) (omega arith) (omega arith) (omega arith) refl (omega arith) (omega arith) (omega arith) (omega arith))
+
+-- a panel's number is below 3
+pub code_lt : (panel : Panel) → panel_code panel < 3
+code_lt Inch144 = omega arith
+code_lt Inch200 = omega arith
+code_lt Inch270 = omega arith
+
+-- what a shape's type says of it
+pub sized_of : (shape : Shape) → Sized (sizes shape)
+sized_of shape = record {
+  some = shape.some;
+  narrow = shape.narrow;
+  high = shape.high;
+  low = shape.low;
+  fours = shape.fours;
+  within = shape.within;
+  small = shape.small;
+  frames_some = shape.frames_some;
+  frames-few = shape.frames_few;
+}

@@ -4,3 +4,4 @@ pub mod Registers
 pub mod Codes
 pub mod Dots
 pub mod Facts
+pub mod Names

@@ -2,7 +2,6 @@
 -- Only this table knows the three panels. Definitions elsewhere speak of the row bytes, rows, stride and frames of any panel.
 -- Assumes nothing.
 use Rattle.std.specs.Prelude.{ℕ, ◌*◌, ◌/◌, Bool, [], ◌∷◌, ltb, get_or}
-use Rattle.panel.specs.declared.Shape.{Shape}
 
 -- a code that names a panel
 abbrev pub is_panel : ℕ → Bool
@@ -32,7 +31,14 @@ frames_of panel = get_or (16 ∷ 16 ∷ 21 ∷ []) panel 0
 abbrev pub stride_of : ℕ → ℕ
 stride_of panel = get_or (16 ∷ 28 ∷ 36 ∷ []) panel 0
 
+-- the sizes of a panel
+pub record Sizes : Type 0 where
+  pub bytes : ℕ
+  pub rows : ℕ
+  pub stride : ℕ
+  pub frames : ℕ
+
 -- all of them as one value
-abbrev pub shape_of : ℕ → Shape
+abbrev pub shape_of : ℕ → Sizes
 shape_of panel =
     record { bytes = row_bytes_of panel; rows = rows_of panel; stride = stride_of panel; frames = frames_of panel }

@@ -1,19 +1,17 @@
 -- Laws of region uploads: what the tests say, and what the painted bytes of a slot leave of the memory.
 -- Assumes nothing.
 use mathlib.Core.Path.{◌≡◌, refl, sym, ap, ◌∙◌}
-use mathlib.Core.Bool.{Bool, true, false, cond, not, ◌&&◌, and-true}
+use mathlib.Core.Bool.{Bool, true, false, cond, not, ◌&&◌}
 use mathlib.Core.List.{List, [], ◌∷◌, ◌++◌}
-use Prim.Native.Nat.{ℕ, ◌+◌, ◌-◌, ◌*◌, ◌%◌, ◌^◌, ◌≤◌, ◌<◌}
+use Prim.Native.Nat.{ℕ, ◌+◌, ◌-◌, ◌*◌, ◌≤◌, ◌<◌}
 use native.Mathlib.Nat.{mul-le-mul}
-use native.Mathlib.Numerals.{add-one}
 use native.Mathlib.Decide.{ℕ_discrete}
 use native.Mathlib.Omega.{arith}
 use lib.Dec.{eqb, leb, ltb}
-use lib.ListN.{length, get_or, take, drop}
-use borrow.Author.Tests.{le-leb, lt-leb, eq-eqb, ne_eqb, leb-true, eqb-true, not-false}
+use lib.ListN.{length, take, drop}
+use borrow.Author.Tests.{eq-eqb, ne_eqb, leb-true, eqb-true, not-false}
 use Rattle.lists.specs.Rules.{all_below, case, first_of}
-use Rattle.lists.proofs.Rules.{and_left, broken, holds, below_fails, refused, passed}
-use Rattle.lists.proofs.Cases.{none, more, each}
+use Rattle.lists.proofs.Rules.{and_left, holds}
 use Rattle.panel.specs.Dots.{dot}
 use Rattle.panel.proofs.Dots.{dot_lt}
 use Rattle.picture.specs.Pictures.{over, overdrawn}
@@ -31,24 +29,6 @@ module _ (b h x y w k : ℕ) where
   abbrev tests : List Bool
   tests = leb 1 w ∷ leb 1 k ∷ leb (x + w) (8 * b) ∷ leb (y + k) h ∷ []
 
-  pub region_thin : w < 1 → false ≡ region_good b h x y w k
-  unfolding region_good
-  region_thin l = sym (broken 0 tests (lt-leb 1 w l))
-
-  pub region_flat : k < 1 → false ≡ region_good b h x y w k
-  unfolding region_good
-  region_flat l = sym (broken 1 tests (lt-leb 1 k l))
-
-  -- by the tests of the two ends that the code has made
-  pub region_wide : {ends : Bool} → ends ≡ leb (x + w) (8 * b) → not ends ≡ true → false ≡ region_good b h x y w k
-  unfolding region_good
-  region_wide e f = sym (broken 2 tests (refused e f))
-
-  pub region_last : {ends last : Bool} → 1 ≤ w → 1 ≤ k → ends ≡ leb (x + w) (8 * b) → not ends ≡ false → last ≡ leb (y + k) h
-      → last ≡ region_good b h x y w k
-  unfolding region_good
-  region_last hw hk e f is = rw is (simp (le-leb 1 w hw, le-leb 1 k hk, passed e f, and-true))
-
   pub region_facts : region_good b h x y w k ≡ true → (1 ≤ w) × (1 ≤ k) × (x + w ≤ 8 * b) × (y + k ≤ h)
   unfolding region_good
   region_facts e = (
@@ -63,26 +43,6 @@ module _ (b h x y w k : ℕ) where
   region_found good r e = region_facts (sym r ∙ not-false good e)
 
 -- ---- 6
-
--- the code's power of two, of a byte
-pub byte_power : (k : ℕ) → k < 8 → 1 * 2 ^ k % 256 ≡ 2 ^ k
-byte_power = each (λ k. 1 * 2 ^ k % 256 ≡ 2 ^ k) 8 (more (more (more (more (more (more (more (more none refl) refl) refl) refl) refl) refl) refl) refl)
-
-module _ (w : ℕ) (l : List ℕ) (some : 1 ≤ w) (j : ℕ) where
-  -- the bits of payload row j that the code looks at
-  abbrev looked : ℕ
-  looked = get_or l (j * payload_row w + payload_row w - 1) 0 % (1 * 2 ^ (payload_row w * 8 - w) % 256)
-
-  looks : looked ≡ get_or l (j * payload_row w + payload_row w - 1) 0 % 2 ^ (payload_row w * 8 - w)
-  looks = rw (byte_power (payload_row w * 8 - w) (omega arith))
-
-  pub row_clear_lem : looked ≡ 0 → all_below j (row_clear w l) ≡ true → all_below (j + 1) (row_clear w l) ≡ true
-  row_clear_lem e q =
-      let t : row_clear w l j ≡ true = eq-eqb _ 0 (sym looks ∙ e) in
-      rw (add-one, t) q
-
-  pub row_dirty : (k : ℕ) → j < k → 0 < looked → false ≡ all_below k (row_clear w l)
-  row_dirty k h e = sym (below_fails k (row_clear w l) j h (ne_eqb _ 0 (λ q. let z : looked ≡ 0 = looks ∙ q in omega arith)))
 
 module _ (w k : ℕ) (l : List ℕ) where
   pub payload_length : payload_good w k l ≡ true → length l ≡ k * payload_row w
@@ -105,17 +65,6 @@ numbers true false e = absurd (omega arith)
 numbers false p e = absurd (omega arith)
 
 module _ (b h x y w k : ℕ) (l : List ℕ) where
-  module _ (good : Bool) (r : good ≡ region_good b h x y w k) where
-    pub number_5 : not good ≡ true → 5 ≡ first_of (region_cases b h x y w k l) (λ n. n) 0
-    number_5 e = rw (← r, e)
-
-    module _ (exact : Bool) (p : exact ≡ payload_good w k l) (g : not good ≡ false) where
-      pub number_6 : not exact ≡ true → 6 ≡ first_of (region_cases b h x y w k l) (λ n. n) 0
-      number_6 e = rw (← r, g, ← p, e)
-
-      pub number_0 : not exact ≡ false → 0 ≡ first_of (region_cases b h x y w k l) (λ n. n) 0
-      number_0 e = rw (← r, g, ← p, e)
-
   -- a region with no number is good
   pub no_number : first_of (region_cases b h x y w k l) (λ n. n) 0 ≡ 0 → (region_good b h x y w k ≡ true) × (payload_good w k l ≡ true)
   no_number = numbers (region_good b h x y w k) (payload_good w k l)

@@ -7,6 +7,7 @@ use native.Mathlib.Nat.{add_assoc, zero-add, suc-mul, add-sub_cancel_left}
 use native.Mathlib.Numerals.{add-one}
 use native.Mathlib.Omega.{arith}
 use native.Mathlib.Decide.{dec_lt}
+use lib.Arith.{digits_lt}
 use lib.Bits.{bit_and, bit_or}
 use lib.ListN.{length, get_or, set, take, drop, replicate, length-drop, take-append-drop}
 use lib.Seq.{drop-drop, take-append-le, drop-append-le, ext_get_or}
@@ -266,6 +267,10 @@ row_put b h l r y hy rows d at fits l' e = q ∙ go (dec_lt 0 b)
     go (no n) =
         no_bytes b h n whole (raw_of b h (overlay_at (y * b) row (picture_of b h l))) (length-painted b h l 0 y (8 * b) 1 (λ u _. row_dot row u))
         (length_raw b h (overlay_at (y * b) row (picture_of b h l)) (length-overlay_at (y * b) (picture_of b h l) row within ∙ length_picture b h l r.0))
+
+-- the byte of dot x of row y is one of the slot
+pub dot_place : (b h x y n : ℕ) → n ≡ h * b → x < 8 * b → y < h → y * b + x / 8 < n
+dot_place b h x y n e hx hy = rw e (digits_lt hy (omega arith))
 
 -- row j of n rows of b bytes, lent as a part of them
 pub row_ends : (j n b : ℕ) → j < n → (b ≤ (j + 1) * b) × ((j + 1) * b ≤ n * b)

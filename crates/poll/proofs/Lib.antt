@@ -1,6 +1,3 @@
--- Laws of the definitions in specs/: `Sent` of what is put out, `Rows` of the rows and slots of the memory, `Next` of what a
--- run hands out next, `Polls` of a poll's answers.
-pub mod Sent
+-- Laws of the definitions in specs/: `Rows` of the rows and slots of the memory, `Next` of what a run hands out next.
 pub mod Rows
 pub mod Next
-pub mod Polls

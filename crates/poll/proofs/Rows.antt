@@ -1,17 +1,14 @@
 -- Laws of the memory: a row of a slot that is lent as a part of it, and the slot that is copied to slot 0.
 -- Assumes nothing.
-use mathlib.Core.Path.{◌≡◌, sym, ap, ◌∙◌}
+use mathlib.Core.Path.{◌≡◌, sym, ◌∙◌}
 use mathlib.Core.Bool.{Bool, true, false, cond}
 use mathlib.Core.List.{List}
 use Prim.Native.Nat.{ℕ, ◌+◌, ◌-◌, ◌*◌, ◌≤◌, ◌<◌}
 use native.Mathlib.Nat.{add-sub_cancel_left, one-mul, mul-le-mul_right, zero-mul}
 use native.Mathlib.Omega.{arith}
-use borrow.Author.Tests.{le-leb, lt-leb}
 use lib.Dec.{leb}
-use lib.ListN.{length, get_or, set, take, drop, length-drop}
-use lib.Seq.{length-take-le, get_or-drop, get_or-append-add}
+use lib.ListN.{length, take, drop}
 use Rattle.lists.specs.Lists.{overlay, overlay_at}
-use Rattle.lists.proofs.Lists.{copy_more}
 use Rattle.lists.proofs.Parts.{more_rows, part_length_lem}
 use Rattle.panel.specs.Dots.{row_dot}
 use Rattle.wire.specs.Line.{line_length, handed_line}
@@ -25,14 +22,6 @@ use Rattle.poll.specs.HandOut.{line_bytes, shown_after}
 use Rattle.poll.specs.Facts.{Sent}
 
 -- ---- the slot that a stage looks at
-
-pub early_stage : (stage slot : ℕ) → stage ≤ 2 → 0 ≡ picture_of_stage stage 0 slot
-unfolding picture_of_stage
-early_stage stage slot h = rw (le-leb stage 2 h)
-
-pub late_stage : (stage slot : ℕ) → 2 < stage → slot ≡ picture_of_stage stage 0 slot
-unfolding picture_of_stage
-late_stage stage slot h = rw (lt-leb stage 2 h)
 
 -- it is no later than the run's
 pub stage-le : (stage slot : ℕ) → picture_of_stage stage 0 slot ≤ slot
@@ -85,18 +74,6 @@ module _ (file memory : List ℕ) (slot stage row : ℕ) (room : SlotIn (row_byt
       }
 
 -- ---- the copy to slot 0
-
--- slot 0 has taken i bytes of those from index `from` on, which stand after it: one more
-pub shown_more : (m d : List ℕ) (from i : ℕ) → i ≤ from → from + i < length m → d ≡ overlay_at 0 (take i (drop from m)) m
-    → set d i (get_or d (from + i) 0) ≡ overlay_at 0 (take (i + 1) (drop from m)) m
-shown_more m d from i h l e =
-    let n : length (take i (drop from m)) ≡ i = length-take-le i (drop from m) (omega (arith, length-drop from m)) in
-    let j : from + i ≡ length (take i (drop from m)) + from = omega arith in
-    let later : get_or d (from + i) 0 ≡ get_or (drop from m) i 0 =
-    rw (e, j, get_or-append-add (take i (drop from m)) (drop (length (take i (drop from m))) m) from 0, n)
-    (get_or-drop i m from 0 ∙ rw (get_or-drop from m i 0) (ap (λ (k : ℕ). get_or m k 0) (omega arith))) in
-    rw later
-    (copy_more 0 m (drop from m) d i i e (omega arith) (rw length-drop (omega arith)) (omega arith))
 
 -- a slot of b row bytes and h rows, as the code has them
 module _ (file : List ℕ) (slot : ℕ) (memory : List ℕ) (room : SlotIn (row_bytes_in file) (rows_in file) (length memory) slot) (h b : ℕ) (eh : h ≡ rows_in file) (eb : b ≡ row_bytes_in file) where

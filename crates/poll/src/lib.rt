@@ -3,23 +3,27 @@
 
 ghost use Rattle.std.specs.Prelude.{◌≡◌, ℕ, ◌+◌, ◌*◌, ◌≤◌, ◌<◌, List, length, take, drop};
 ghost use Rattle.lists.specs.Lists.{overlay_at};
+ghost use Rattle.panel.specs.Names.{panel_code};
+ghost use Rattle.refusal.specs.Numbers.{number_of};
 ghost use Rattle.settings.specs.Settings.{row_bytes_in, step_of, start_count, start_steps, stop_count, stop_steps, rows_in};
 ghost use Rattle.settings.specs.Steps.{from_write};
 ghost use Rattle.balance.specs.Sums.{picture_of_stage};
 ghost use Rattle.run.specs.Facts.{Ready};
-ghost use Rattle.settings.specs.Plans.{PlanOf};
 ghost use Rattle.picture.specs.Facts.{SlotIn};
 ghost use Rattle.poll.specs.HandOut.{step_bytes, line_bytes, shown_after, outcome, send_write, send_line, hand_start, hand_stop, hand_out};
 ghost use Rattle.poll.specs.Poll.{poll_at, poll_run};
 ghost use Rattle.poll.specs.Facts.{Sent, LineIn, Room};
 
+use panel::Shape;
+use refusal::Refusal;
 use run::{Passed, Phase, Position, Reading, Run, Tick};
-use settings::{Kind, Plan};
+use settings::{AcceptedFile, Kind};
 
 // What a poll answers: the number of a refusal; a register write or a line, with the length put out; the ms still to go; or that
 // the run is over.
 #[derive(Clone, Copy)]
 pub enum Answer {
+    // the number, no Refusal: theorems speak of this type
     Refused(u8),
     Write(usize),
     Line(usize),
@@ -34,61 +38,53 @@ pub struct Handed {
     pub phase: Phase,
 }
 
-// Puts the write at index `at` of the file at the front of the output, and answers its length.
-fn put_step(file: &[u8], at: usize, panel: usize, out: &mut [u8]) -> usize
-    requires { (panel < 3) × (at ≤ length file.now) × (117 ≤ length out.old) }
-    ensures { Sent (step_bytes (step_of panel (drop at file.now))) out.old result out.new }
+// Puts the write at index `at` of the file at the front of the output, and answers its length. Where no write stands, it puts nothing: no
+// Option, as 0 is the length of `step_bytes` there too. Here and below `117 ≤ length out` stays a clause: the output is the caller's, of any
+// length, and its first 117 bytes as an array would be a part that is joined again in each contract.
+fn put_step(accepted: AcceptedFile, at: usize, out: &mut [u8]) -> usize
+    requires { (at ≤ length accepted.file.now) × (117 ≤ length out.old) }
+    ensures { Sent (step_bytes (step_of (panel_code accepted.entry.plan.panel) (drop at accepted.entry.file.now))) out.old result out.new }
 {
-    let kind = settings::step_at(file, at, panel);
-    match kind {
-        Kind::Write(register) => {
-            let data = settings::data_of(file, panel, at, register);
-            wire::put_write(out, register, data)
-        }
-        Kind::Wait(_) => 0,
-        Kind::Malformed => 0,
-    }
+    let Some(Kind::Write(register)) = accepted.step_at(at) else {
+        return 0;
+    };
+    wire::put_write(out, register, accepted.data_of(at, register))
 }
 
 // The slot whose picture a stage looks at: the shown one in stages 1 and 2, the run's in stages 3 and 4.
+#[tactic(auto, unfolding(balance::specs::Sums::picture_of_stage))]
 fn slot_of_stage(stage: u32, slot: u32) -> u32
     ensures { result ≡ picture_of_stage stage 0 slot }
 {
     if stage <= 2 { 0 } else { slot }
 }
 
-// Where a row of a slot begins in the memory, where a picture has `rows` rows of `bytes` bytes.
-fn row_start(rows: usize, bytes: usize, slot: u32, row: u32) -> usize
-    requires { (rows ≤ 176) × (bytes ≤ 33) × (slot ≤ 7) × (row < rows) }
-    ensures { (result ≡ slot * (rows * bytes) + row * bytes) × (result ≤ 46464) }
+// Where a row of a slot begins in the memory.
+fn row_start(shape: Shape, slot: u32, row: u32) -> usize
+    requires { (slot ≤ 7) × (row < shape.rows) }
+    ensures { (result ≡ slot * (shape.rows * shape.bytes) + row * shape.bytes) × (result ≤ 46464) }
 {
-    slot as usize * (rows * bytes) + row as usize * bytes
+    slot as usize * (shape.rows * shape.bytes) + row as usize * shape.bytes
 }
 
 // Puts the line of a row, and the write after it, at the front of the output, and answers their length.
 fn put_line(
-    file: &[u8],
-    plan: Plan,
+    accepted: AcceptedFile,
     memory: &[u8],
     slot: u32,
     stage: u32,
     row: u32,
     out: &mut [u8],
 ) -> usize
-    requires { (PlanOf file.now plan) × (SlotIn (row_bytes_in file.now) (rows_in file.now) (length memory.now) slot) × (1 ≤ stage) × (stage ≤ 4)
-        × (row < rows_in file.now) × (117 ≤ length out.old) }
-    ensures { Sent (line_bytes file.now memory.now slot stage row) out.old result out.new }
+    requires { (SlotIn (row_bytes_in accepted.file.now) (rows_in accepted.file.now) (length memory.now) slot) × (1 ≤ stage) × (stage ≤ 4)
+        × (row < rows_in accepted.file.now) × (117 ≤ length out.old) }
+    ensures { Sent (line_bytes accepted.entry.file.now memory.now slot stage row) out.old result out.new }
 {
-    let start = row_start(
-        plan.shape.rows,
-        plan.shape.bytes,
-        slot_of_stage(stage, slot),
-        row,
-    );
-    let end = start + plan.shape.bytes;
+    let start = row_start(accepted.plan.shape, slot_of_stage(stage, slot), row);
+    let end = start + accepted.plan.shape.bytes;
     wire::hand_out_line(
         out,
-        plan.shape.rows,
+        accepted.plan.shape.rows,
         stage as usize,
         row as usize,
         &memory[start..end],
@@ -100,54 +96,46 @@ fn copy_to_shown(memory: &mut [u8], from: usize, size: usize)
     requires { (size ≤ from) × (from + size ≤ length memory.old) }
     ensures { memory.new ≡ overlay_at 0 (take size (drop from memory.old)) memory.old }
 {
-    let mut i = 0;
-    while i < size {
-        memory[i] = memory[from + i];
-        i += 1;
-    }
+    memory.copy_within(from..from + size, 0);
 }
 
 // Makes the picture of a slot the shown one.
-fn show_slot(file: &[u8], plan: Plan, slot: u32, memory: &mut [u8])
-    requires { (PlanOf file.now plan) × (1 ≤ slot) × (SlotIn (row_bytes_in file.now) (rows_in file.now) (length memory.old) slot) }
-    ensures { memory.new ≡ shown_after file.now memory.old slot }
+fn show_slot(accepted: AcceptedFile, slot: u32, memory: &mut [u8])
+    requires { (1 ≤ slot) × (SlotIn (row_bytes_in accepted.file.now) (rows_in accepted.file.now) (length memory.old) slot) }
+    ensures { memory.new ≡ shown_after accepted.entry.file.now memory.old slot }
 {
-    let size = plan.shape.rows * plan.shape.bytes;
+    let size = accepted.plan.shape.rows * accepted.plan.shape.bytes;
     copy_to_shown(memory, slot as usize * size, size);
 }
 
-// Hands out the write at index `at` of the file; the run goes on from `next`.
+// Hands out the write at index `at` of the file; the run goes on from `next`. Here and below the accepted file, the run and the reading are
+// parameters of their own: the definitions of specs/HandOut take them one by one, and each clause would take a struct of them apart. The
+// memory and the output are lent by the caller, and two `&mut` parts in a struct would be no plainer.
 fn hand_write(
-    file: &[u8],
-    panel: usize,
+    accepted: AcceptedFile,
     at: usize,
     run: Run,
-    tick: Tick,
-    moment: Passed,
+    reading: Reading,
     next: Position,
     out: &mut [u8],
 ) -> Handed
-    requires { (panel < 3) × (at ≤ length file.now) × (117 ≤ length out.old) }
+    requires { (at ≤ length accepted.file.now) × (117 ≤ length out.old) }
     ensures { (memory : List ℕ) → outcome result.answer result.phase memory out.new
-        ≡ send_write file.now run tick moment memory out.old
-        (step_of panel (drop at file.now)) next }
+        ≡ send_write accepted.entry.file.now run reading.tick reading.moment memory out.old
+        (step_of (panel_code accepted.entry.plan.panel) (drop at accepted.entry.file.now)) next }
 {
-    let len = put_step(file, at, panel, out);
-    let first = run.first;
-    let phase = run::go_on(run, tick, moment, first, next);
+    let len = put_step(accepted, at, out);
     Handed {
         answer: Answer::Write(len),
-        phase,
+        phase: run.go_on(reading, run.first, next),
     }
 }
 
 // Hands out a line; F is `first`.
 fn hand_line(
-    file: &[u8],
-    plan: Plan,
+    accepted: AcceptedFile,
     run: Run,
-    tick: Tick,
-    moment: Passed,
+    reading: Reading,
     first: Passed,
     stage: u32,
     frame: u32,
@@ -155,167 +143,145 @@ fn hand_line(
     memory: &[u8],
     out: &mut [u8],
 ) -> Handed
-    requires { (PlanOf file.now plan) × (LineIn file.now stage frame row) × (SlotIn (row_bytes_in file.now) (rows_in file.now) (length memory.now) run.slot) × (117 ≤ length out.old) }
+    requires { (LineIn accepted.file.now stage frame row) × (SlotIn (row_bytes_in accepted.file.now) (rows_in accepted.file.now) (length memory.now) run.slot) × (117 ≤ length out.old) }
     ensures { outcome result.answer result.phase memory.now out.new
-        ≡ send_line file.now run tick moment memory.now out.old first stage frame row }
+        ≡ send_line accepted.entry.file.now run reading.tick reading.moment memory.now out.old first stage frame row }
 {
-    let len = put_line(file, plan, memory, run.slot, stage, row, out);
-    let rows = plan.shape.rows as u32;
-    let next = run::next_position(rows, plan.shape.frames, stage, frame, row);
-    let phase = run::go_on(run, tick, moment, first, next);
+    let len = put_line(accepted, memory, run.slot, stage, row, out);
+    let next = run::next_position(accepted.plan.shape, stage, frame, row);
     Handed {
         answer: Answer::Line(len),
-        phase,
+        phase: run.go_on(reading, first, next),
     }
 }
 
 // Hands out the next write from start step k on, or after the start steps the first line, whose moment is F.
 fn hand_start(
-    file: &[u8],
-    plan: Plan,
+    accepted: AcceptedFile,
     run: Run,
-    tick: Tick,
-    moment: Passed,
+    reading: Reading,
     k: u32,
     memory: &[u8],
     out: &mut [u8],
 ) -> Handed
-    requires { (PlanOf file.now plan) × (k ≤ start_count file.now) × (SlotIn (row_bytes_in file.now) (rows_in file.now) (length memory.now) run.slot)
+    requires { (k ≤ start_count accepted.file.now) × (SlotIn (row_bytes_in accepted.file.now) (rows_in accepted.file.now) (length memory.now) run.slot)
         × (117 ≤ length out.old) }
     ensures { outcome result.answer result.phase memory.now out.new
-        ≡ hand_start file.now run tick moment memory.now out.old
-        (from_write (drop k (start_steps file.now))) }
+        ≡ hand_start accepted.entry.file.now run reading.tick reading.moment memory.now out.old
+        (from_write (drop k (start_steps accepted.entry.file.now))) }
 {
-    let panel = plan.panel;
-    let n = plan.start.count;
-    let found = settings::next_write_from(file, panel, plan.start.at, n, k as usize);
-    let at = found.at;
-    let left = found.left;
-    if left == 0 {
-        return hand_line(file, plan, run, tick, moment, moment, 1, 0, 0, memory, out);
-    }
-    let next = Position::Start((n - (left - 1)) as u32);
-    hand_write(file, panel, at, run, tick, moment, next, out)
+    let found = accepted.next_write_from(accepted.plan.start, k as usize);
+    let Some(place) = found.write else {
+        let first = reading.moment;
+        return hand_line(accepted, run, reading, first, 1, 0, 0, memory, out);
+    };
+    let next = Position::Start((accepted.plan.start.count - (place.left - 1)) as u32);
+    hand_write(accepted, place.at, run, reading, next, out)
 }
 
 // Hands out the next write from stop step k on, or after the stop steps done: the run's slot becomes the shown picture.
 fn hand_stop(
-    file: &[u8],
-    plan: Plan,
+    accepted: AcceptedFile,
     run: Run,
-    tick: Tick,
-    moment: Passed,
+    reading: Reading,
     k: u32,
     memory: &mut [u8],
     out: &mut [u8],
 ) -> Handed
-    requires { (PlanOf file.now plan) × (k ≤ stop_count file.now) × (Room file.now run memory.old)
+    requires { (k ≤ stop_count accepted.file.now) × (Room accepted.file.now run memory.old)
         × (117 ≤ length out.old) }
     ensures { outcome result.answer result.phase memory.new out.new
-        ≡ hand_stop file.now run tick moment memory.old out.old
-        (from_write (drop k (stop_steps file.now))) }
+        ≡ hand_stop accepted.entry.file.now run reading.tick reading.moment memory.old out.old
+        (from_write (drop k (stop_steps accepted.entry.file.now))) }
 {
-    let panel = plan.panel;
-    let n = plan.stop.count;
-    let found = settings::next_write_from(file, panel, plan.stop.at, n, k as usize);
-    let at = found.at;
-    let left = found.left;
-    if left == 0 {
-        show_slot(file, plan, run.slot, memory);
+    let found = accepted.next_write_from(accepted.plan.stop, k as usize);
+    let Some(place) = found.write else {
+        show_slot(accepted, run.slot, memory);
         return Handed {
             answer: Answer::Done,
             phase: Phase::Idle,
         };
-    }
-    let next = Position::Stop((n - (left - 1)) as u32);
-    hand_write(file, panel, at, run, tick, moment, next, out)
+    };
+    let next = Position::Stop((accepted.plan.stop.count - (place.left - 1)) as u32);
+    hand_write(accepted, place.at, run, reading, next, out)
 }
 
 // Hands out what stands next.
 fn hand_out(
-    file: &[u8],
-    plan: Plan,
+    accepted: AcceptedFile,
     run: Run,
-    tick: Tick,
-    moment: Passed,
+    reading: Reading,
     memory: &mut [u8],
     out: &mut [u8],
 ) -> Handed
-    requires { (PlanOf file.now plan) × (Ready file.now run run.next moment) × (Room file.now run memory.old)
+    requires { (Ready accepted.file.now run run.next reading.moment) × (Room accepted.file.now run memory.old)
         × (117 ≤ length out.old) }
     ensures { outcome result.answer result.phase memory.new out.new
-        ≡ hand_out file.now run tick moment memory.old out.old run.next }
+        ≡ hand_out accepted.entry.file.now run reading.tick reading.moment memory.old out.old run.next }
 {
-    let next = run.next;
-    let first = run.first;
-    match next {
-        Position::Start(k) => hand_start(file, plan, run, tick, moment, k, memory, out),
+    match run.next {
+        Position::Start(k) => hand_start(accepted, run, reading, k, memory, out),
         Position::Line { stage, frame, row } => {
             hand_line(
-                file, plan, run, tick, moment, first, stage, frame, row, memory, out,
+                accepted, run, reading, run.first, stage, frame, row, memory, out,
             )
         }
-        Position::Stop(k) => hand_stop(file, plan, run, tick, moment, k, memory, out),
+        Position::Stop(k) => hand_stop(accepted, run, reading, k, memory, out),
     }
 }
 
 // A poll at a moment: the ms still to go until the next thing is due, or that thing.
+#[tactic(auto, unfolding(crate::specs::Poll::poll_at))]
 fn poll_at(
-    file: &[u8],
-    plan: Plan,
+    accepted: AcceptedFile,
     run: Run,
-    tick: Tick,
-    moment: Passed,
+    reading: Reading,
     memory: &mut [u8],
     out: &mut [u8],
 ) -> Handed
-    requires { (PlanOf file.now plan) × (Ready file.now run run.next moment) × (Room file.now run memory.old)
+    requires { (Ready accepted.file.now run run.next reading.moment) × (Room accepted.file.now run memory.old)
         × (117 ≤ length out.old) }
     ensures { outcome result.answer result.phase memory.new out.new
-        ≡ poll_at file.now run tick moment memory.old out.old }
+        ≡ poll_at accepted.entry.file.now run reading.tick reading.moment memory.old out.old }
 {
-    let ms = run::to_go(file, plan, run, moment);
+    let ms = run::to_go(accepted, run, reading.moment);
     if 0 < ms {
-        let phase = run::wait_on(run, tick, moment);
         return Handed {
             answer: Answer::Wait(ms),
-            phase,
+            phase: run.wait_on(reading),
         };
     }
-    hand_out(file, plan, run, tick, moment, memory, out)
+    hand_out(accepted, run, reading, memory, out)
 }
 
 // A refused poll leaves the run as it was.
-fn refuse(number: u8, run: Run) -> Handed
-    ensures { (result.answer ≡ Answer.Refused number) × (result.phase ≡ Phase.Running run) }
+fn refuse(refusal: Refusal, run: Run) -> Handed
+    ensures { (result.answer ≡ Answer.Refused (number_of refusal)) × (result.phase ≡ Phase.Running run) }
 {
     Handed {
-        answer: Answer::Refused(number),
+        answer: Answer::Refused(refusal.number()),
         phase: Phase::Running(run),
     }
 }
 
 // A poll of a run under way.
+#[tactic(auto, unfolding(crate::specs::Poll::poll_run, run::specs::Clock::reading_of, run::specs::Clock::clock_refused))]
 pub fn poll_run(
-    file: &[u8],
-    plan: Plan,
+    accepted: AcceptedFile,
     run: Run,
     tick: Tick,
     memory: &mut [u8],
     out: &mut [u8],
 ) -> Handed
-    requires { (PlanOf file.now plan) × (Ready file.now run run.next run.passed) × (Room file.now run memory.old) }
+    requires { (Ready accepted.file.now run run.next run.passed) × (Room accepted.file.now run memory.old) }
     ensures { outcome result.answer result.phase memory.new out.new
-        ≡ poll_run file.now run tick memory.old out.old }
+        ≡ poll_run accepted.entry.file.now run tick memory.old out.old }
 {
     if out.len() < 117 {
-        return refuse(11, run);
+        return refuse(Refusal::Output, run);
     }
-    let passed = run.passed;
-    let last = run.last;
-    let reading = run::read_clock(passed, last, tick);
-    match reading {
-        Reading::Refused => refuse(10, run),
-        Reading::At(moment) => poll_at(file, plan, run, tick, moment, memory, out),
-    }
+    let Some(moment) = run::read_clock(run.passed, run.last, tick) else {
+        return refuse(Refusal::Clock, run);
+    };
+    poll_at(accepted, run, Reading { tick, moment }, memory, out)
 }

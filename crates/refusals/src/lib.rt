@@ -1,156 +1,152 @@
-// The numbers of the calls, case by case: `before` is the number given so far, and 0 where there is none.
+// What refuses each call after `Refusal::State` and `Refusal::Memory`, and what refuses an opening.
 #![tactic(auto)]
 
-ghost use Rattle.std.specs.Prelude.{◌≡◌, cond, eqb};
+ghost use Rattle.std.specs.Prelude.{◌≡◌};
+ghost use Rattle.refusal.specs.Numbers.{number_given};
 ghost use Rattle.lists.specs.Rules.{first_of};
-ghost use Rattle.panel.specs.Facts.{Sized};
-ghost use Rattle.store.specs.Refusals.{takes_pictures, is_running, is_abandoned, open_cases, slot_own, upload_own, begin_own, fill_own, start_own, abandon_own, write_own, summary_own};
-ghost use Rattle.store.specs.Facts.{number_after};
+ghost use Rattle.panel.specs.Facts.{sizes};
+ghost use Rattle.store.specs.Refusals.{
+  takes_pictures,
+  is_running,
+  is_abandoned,
+  open_cases,
+  slot_own,
+  upload_own,
+  begin_own,
+  fill_own,
+  start_own,
+  abandon_own,
+  write_own,
+  summary_own,
+};
 
 use panel::Shape;
+use refusal::Refusal;
 use run::Phase;
 use store::{Store, checks};
-
-// The number given so far; where there is none, that of one more case.
-fn or_number(before: u8, applies: bool, number: u8) -> u8
-    ensures { result ≡ cond (eqb before 0) (cond applies number 0) before }
-{
-    if before != 0 {
-        return before;
-    }
-    if applies {
-        return number;
-    }
-    0
-}
 
 fn is_running(phase: Phase) -> bool
     ensures { result ≡ is_running phase }
 {
-    match phase {
-        Phase::Idle => false,
-        Phase::Abandoned => false,
-        Phase::Running(_) => true,
-    }
+    matches!(phase, Phase::Running(_))
 }
 
 fn is_abandoned(phase: Phase) -> bool
     ensures { result ≡ is_abandoned phase }
 {
-    match phase {
-        Phase::Idle => false,
-        Phase::Abandoned => true,
-        Phase::Running(_) => false,
-    }
+    matches!(phase, Phase::Abandoned)
 }
 
 // Whether a slot takes uploads and starts.
 fn takes_pictures(slots: u32, slot: u32) -> bool
     ensures { result ≡ takes_pictures slots slot }
 {
-    if slot < 1 {
-        return false;
+    (1..=slots).contains(&slot)
+}
+
+// An opening.
+pub fn open(file: &[u8], n: u32, memory_len: usize) -> Result<(), Refusal>
+    ensures { number_given result ≡ first_of (open_cases file.now n memory_len) (λ n. n) 0 }
+{
+    let plan = settings::plan_of(file).ok_or(Refusal::Settings)?;
+    if (1..=7).contains(&n) && memory_len == slots::store_bytes(plan.shape, n) {
+        Ok(())
+    } else {
+        Err(Refusal::Memory)
     }
-    slot <= slots
 }
 
-// 2 or 1.
-pub fn open_number(file: &[u8], n: u32, memory_len: usize) -> u8
-    ensures { result ≡ first_of (open_cases file.now n memory_len) (λ n. n) 0 }
+// What every call begins with that writes a slot.
+fn write_slot(store: Store, slot: u32) -> Result<(), Refusal>
+    ensures { number_given result ≡ first_of (slot_own store slot) (λ n. n) 0 }
 {
-    let planned = settings::plan_of(file);
-    let plan = planned.plan;
-    let shape = plan.shape;
-    if !planned.ok {
-        return 2;
+    if !takes_pictures(store.slots, slot) {
+        return Err(Refusal::Slot);
     }
-    if n < 1 {
-        return 1;
+    if checks::is_runs_slot(store.phase, slot) {
+        return Err(Refusal::RunsSlot);
     }
-    if 7 < n {
-        return 1;
+    Ok(())
+}
+
+// An upload.
+pub fn upload(store: Store, slot: u32) -> Result<(), Refusal>
+    ensures { number_given result ≡ first_of (upload_own store slot) (λ n. n) 0 }
+{
+    write_slot(store, slot)?;
+    if store.fill.slot == slot {
+        return Err(Refusal::FillsSlot);
     }
-    if memory_len != slots::store_bytes(shape, n) {
-        return 1;
+    Ok(())
+}
+
+// The begin of a fill.
+pub fn begin(store: Store, slot: u32) -> Result<(), Refusal>
+    ensures { number_given result ≡ first_of (begin_own store slot) (λ n. n) 0 }
+{
+    upload(store, slot)?;
+    if store.fill.slot != 0 {
+        return Err(Refusal::Filling);
     }
-    0
+    Ok(())
 }
 
-// 3 or 7.
-fn slot_number(before: u8, store: Store, slot: u32) -> u8
-    ensures { result ≡ number_after before (slot_own store slot) }
+// A chunk, the finish and the cancel of a fill.
+pub fn fill(store: Store) -> Result<(), Refusal>
+    ensures { number_given result ≡ first_of (fill_own store) (λ n. n) 0 }
 {
-    let phase = store.phase;
-    let absent = !takes_pictures(store.slots, slot);
-    let shown = checks::is_runs_slot(phase, slot);
-    let number = or_number(before, absent, 3);
-    or_number(number, shown, 7)
+    if store.fill.slot == 0 {
+        return Err(Refusal::NoFill);
+    }
+    Ok(())
 }
 
-// 3, 7 or 15.
-pub fn upload_number(before: u8, store: Store, slot: u32) -> u8
-    ensures { result ≡ number_after before (upload_own store slot) }
+// The start of a run.
+pub fn start(store: Store, slot: u32) -> Result<(), Refusal>
+    ensures { number_given result ≡ first_of (start_own store slot) (λ n. n) 0 }
 {
-    let number = slot_number(before, store, slot);
-    or_number(number, store.fill.slot == slot, 15)
+    if is_running(store.phase) {
+        return Err(Refusal::Running);
+    }
+    if is_abandoned(store.phase) {
+        return Err(Refusal::Unknown);
+    }
+    if !takes_pictures(store.slots, slot) {
+        return Err(Refusal::Slot);
+    }
+    if store.fill.slot == slot {
+        return Err(Refusal::FillsSlot);
+    }
+    Ok(())
 }
 
-// 3, 7, 15 or 16.
-pub fn begin_number(before: u8, store: Store, slot: u32) -> u8
-    ensures { result ≡ number_after before (begin_own store slot) }
+// The abandon of a run.
+pub fn abandon(store: Store) -> Result<(), Refusal>
+    ensures { number_given result ≡ first_of (abandon_own store) (λ n. n) 0 }
 {
-    let filled = store.fill.slot == slot;
-    let filling = store.fill.slot != 0;
-    let number = slot_number(before, store, slot);
-    let number = or_number(number, filled, 15);
-    or_number(number, filling, 16)
+    if !is_running(store.phase) {
+        return Err(Refusal::NoRun);
+    }
+    Ok(())
 }
 
-// 17.
-pub fn fill_number(before: u8, store: Store) -> u8
-    ensures { result ≡ number_after before (fill_own store) }
+// The writer of a slot's bitmap file: any slot of the store has one, as it has a summary.
+pub fn write(store: Store, shape: Shape, slot: u32, out_len: usize) -> Result<(), Refusal>
+    ensures { number_given result ≡ first_of (write_own store (sizes shape) slot out_len) (λ n. n) 0 }
 {
-    or_number(before, store.fill.slot == 0, 17)
+    summary(store, slot)?;
+    if out_len < bitmap::file_length(shape.rows, shape.stride) {
+        return Err(Refusal::Output);
+    }
+    Ok(())
 }
 
-// 8, 12, 3 or 15.
-pub fn start_number(before: u8, store: Store, slot: u32) -> u8
-    ensures { result ≡ number_after before (start_own store slot) }
+// The summary of a slot.
+pub fn summary(store: Store, slot: u32) -> Result<(), Refusal>
+    ensures { number_given result ≡ first_of (summary_own store slot) (λ n. n) 0 }
 {
-    let phase = store.phase;
-    let running = is_running(phase);
-    let abandoned = is_abandoned(phase);
-    let absent = !takes_pictures(store.slots, slot);
-    let filled = store.fill.slot == slot;
-    let number = or_number(before, running, 8);
-    let number = or_number(number, abandoned, 12);
-    let number = or_number(number, absent, 3);
-    or_number(number, filled, 15)
-}
-
-// 9.
-pub fn abandon_number(before: u8, store: Store) -> u8
-    ensures { result ≡ number_after before (abandon_own store) }
-{
-    let phase = store.phase;
-    or_number(before, !is_running(phase), 9)
-}
-
-// 3 or 11.
-pub fn write_number(before: u8, store: Store, shape: Shape, slot: u32, out_len: usize) -> u8
-    requires { Sized shape }
-    ensures { result ≡ number_after before (write_own store shape slot out_len) }
-{
-    let needed = bitmap::file_length(shape.rows, shape.stride);
-    let missing = store.slots < slot;
-    let short = out_len < needed;
-    let number = or_number(before, missing, 3);
-    or_number(number, short, 11)
-}
-
-// 3.
-pub fn summary_number(before: u8, store: Store, slot: u32) -> u8
-    ensures { result ≡ number_after before (summary_own store slot) }
-{
-    or_number(before, store.slots < slot, 3)
+    if store.slots < slot {
+        return Err(Refusal::Slot);
+    }
+    Ok(())
 }

@@ -3,186 +3,102 @@
 
 mod script;
 
-ghost use Rattle.std.specs.Prelude.{◌≡◌, ◌≤◌, length};
+use arrayvec::ArrayVec;
+use session::{Answers, Session};
+use std::io::{self, Read, Write};
 
-use session::{Session, text};
-use std::io::{Read, Write};
-
-// The answers are written out once they have grown to this length. The longest answer is 12,805 bytes, so a buffer of 65,536 has
-// room for one more.
+// The answers are written out once they have grown to this length. The longest answer is 12,805 bytes, so room for 65,536 bytes takes
+// one more.
 const FULL: usize = 32768;
 
-// Rooms of zeros. The `ensures` of each gives only the length, which lending it as a slice needs.
-fn line_room() -> [u8; 16385]
-    ensures { 16385 ≡ length result }
-{
-    [0; 16385]
-}
+// What has been read of a line whose end has not come. It has room for one byte more than a line may have, so one that fills it is too
+// long.
+type Line = ArrayVec<u8, 16385>;
 
-fn bytes_room() -> [u8; 8192]
-    ensures { 8192 ≡ length result }
-{
-    [0; 8192]
-}
-
-fn memory_room() -> [u8; 46464]
-    ensures { 46464 ≡ length result }
-{
-    [0; 46464]
-}
-
-// Writes out the answers that wait for it.
-fn flush<W: Write>(out: &mut W, text: &[u8], session: Session) -> std::io::Result<Session> {
-    let k = session::within(text, session.end);
-    out.write_all(&text[..k])?;
-    let mut after = session;
-    after.end = 0;
-    Ok(after)
-}
-
-// Answers the line that was read. `line` has room for one byte more than a line may have, so one that fills it is too long.
-fn answer_line(text: &mut [u8], memory: &mut [u8], session: Session, line: &[u8]) -> Session {
-    let len = session::within(line, session.pending);
-    let mut before = session;
-    before.pending = 0;
-    if len == line.len() {
-        return session::malformed(text, before);
-    }
-    let mut bytes = bytes_room();
-    let command = script::command_of(&line[..len], &mut bytes);
-    session::call(text, memory, before, command, &bytes)
-}
-
-// Ends the line: answers it, and writes the answers out where they have grown long.
-fn end_line<W: Write>(
-    out: &mut W,
-    text: &mut [u8],
-    memory: &mut [u8],
+// The store and the memory that it lends, the answers so far, and the line that is being read.
+#[derive(Drop)]
+struct Desk {
     session: Session,
-    line: &[u8],
-) -> std::io::Result<Session> {
-    let after = answer_line(text, memory, session, line);
-    if after.end < FULL {
-        return Ok(after);
-    }
-    flush(out, text, after)
+    memory: [u8; session::MEMORY],
+    answers: Answers,
+    line: Line,
 }
 
-// The index of the first line end from index `from` on, or the length where there is none.
-fn line_end(input: &[u8], from: usize) -> usize
-    requires { from ≤ length input.now }
-    ensures { (from ≤ result) × (result ≤ length input.now) }
-{
-    let mut i = from;
-    while i < input.len() {
-        if input[i] == b'\n' {
-            return i;
+impl Desk {
+    fn new() -> Desk {
+        Desk {
+            session: Session::new(),
+            memory: [0; session::MEMORY],
+            answers: Answers::new(),
+            line: Line::new(),
         }
-        i += 1;
     }
-    i
-}
 
-// Reads all lines that the input has, and keeps what stands after the last line end.
-fn take_input<W: Write>(
-    out: &mut W,
-    text: &mut [u8],
-    memory: &mut [u8],
-    session: Session,
-    line: &mut [u8],
-    input: &[u8],
-) -> std::io::Result<Session> {
-    let mut after = session;
-    let mut at: usize = 0;
-    while at < input.len() {
-        let end = line_end(input, at);
-        after.pending = text::put(line, after.pending, &input[at..end]);
-        if input.len() <= end {
-            return Ok(after);
+    // Writes out the answers that wait for it.
+    fn flush<W: Write>(&mut self, out: &mut W) -> io::Result<()> {
+        out.write_all(self.answers.as_slice())?;
+        self.answers.clear();
+        Ok(())
+    }
+
+    // Answers the line.
+    fn answer(&mut self) {
+        if self.line.is_full() {
+            return session::malformed(&mut self.answers);
         }
-        at = end + 1;
-        after = end_line(out, text, memory, after, line)?;
+        let mut room = [0u8; 8192];
+        match script::command_of(self.line.as_slice(), &mut room) {
+            Some(command) => self
+                .session
+                .call(&mut self.answers, &mut self.memory, command),
+            None => session::malformed(&mut self.answers),
+        }
     }
-    Ok(after)
+
+    // Ends the line: answers it, and writes the answers out where they have grown long.
+    fn end_line<W: Write>(&mut self, out: &mut W) -> io::Result<()> {
+        self.answer();
+        self.line.clear();
+        if self.answers.len() < FULL {
+            return Ok(());
+        }
+        self.flush(out)
+    }
+
+    // Reads all lines that the input has, and keeps what stands after the last line end.
+    fn take_input<W: Write>(&mut self, out: &mut W, input: &[u8]) -> io::Result<()> {
+        for piece in input.split_inclusive(|byte| *byte == b'\n') {
+            let front = piece.strip_suffix(b"\n");
+            // What does not fit makes the line too long.
+            let _ = self.line.extend(front.unwrap_or(piece).iter().copied());
+            if front.is_some() {
+                self.end_line(out)?;
+            }
+        }
+        Ok(())
+    }
 }
 
-// Reads once, and answers what came.
-fn turn<R: Read, W: Write>(
-    reader: &mut R,
-    out: &mut W,
-    text: &mut [u8],
-    memory: &mut [u8],
-    session: Session,
-    line: &mut [u8],
-) -> std::io::Result<Session> {
-    let mut input = io::large_buffer();
-    let n = reader.read(&mut input)?;
-    let mut after = take_input(out, text, memory, session, line, &input[..n])?;
-    after.more = 0 < n;
-    flush(out, text, after)
-}
-
-// Reads to the end of the input. A proved loop has to end, and nothing says that the input does, so the loop counts its turns up to a
-// number that no run reaches.
-fn read_all<R: Read, W: Write>(
-    reader: &mut R,
-    out: &mut W,
-    text: &mut [u8],
-    memory: &mut [u8],
-    line: &mut [u8],
-) -> std::io::Result<Session> {
-    let mut session = Session {
-        state: board::empty_state(),
-        lent: 0,
-        pending: 0,
-        end: 0,
-        more: true,
-    };
+// Reads to the end of the input, and answers what came after each read. A proved loop has to end, and nothing says that the input does, so
+// the loop counts its turns up to a number that no run reaches.
+fn replay<R: Read, W: Write>(reader: &mut R, out: &mut W) -> io::Result<()> {
+    let mut desk = Desk::new();
+    let mut input = [0u8; 65536];
     for _ in 0..u64::MAX {
-        session = turn(reader, out, text, memory, session, line)?;
-        if !session.more {
-            return Ok(session);
+        let n = reader.read(&mut input)?;
+        if n == 0 {
+            break;
         }
+        desk.take_input(out, &input[..n])?;
+        desk.flush(out)?;
     }
-    Ok(session)
-}
-
-// Answers a last line that has no line end.
-fn end_input<W: Write>(
-    out: &mut W,
-    text: &mut [u8],
-    memory: &mut [u8],
-    session: Session,
-    line: &[u8],
-) -> std::io::Result<()> {
-    if session.pending == 0 {
-        return Ok(());
+    // A last line that has no line end.
+    if !desk.line.is_empty() {
+        desk.end_line(out)?;
     }
-    let after = end_line(out, text, memory, session, line)?;
-    flush(out, text, after)?;
-    Ok(())
+    desk.flush(out)
 }
 
-fn replay<R: Read, W: Write>(
-    reader: &mut R,
-    out: &mut W,
-    text: &mut [u8],
-    memory: &mut [u8],
-    line: &mut [u8],
-) -> std::io::Result<()> {
-    let session = read_all(reader, out, text, memory, line)?;
-    end_input(out, text, memory, session, line)
-}
-
-fn main(rt: HostRuntime) -> std::io::Result<()> {
-    let mut text = io::large_buffer();
-    let mut memory = memory_room();
-    let mut line = line_room();
-    replay(
-        &mut rt.stdin(),
-        &mut rt.stdout(),
-        &mut text,
-        &mut memory,
-        &mut line,
-    )
+fn main(rt: HostRuntime) -> io::Result<()> {
+    replay(&mut rt.stdin(), &mut rt.stdout())
 }

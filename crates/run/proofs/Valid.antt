@@ -1,6 +1,6 @@
 -- What the conditions on a run say, place by place, and back.
 -- Assumes nothing.
-use Rattle.std.proofs.Common.{◌≡◌, ℕ, zero, suc, ◌+◌, ◌-◌, ◌*◌, ◌<◌, ◌≤◌, Bool, true, false, cond, not, ◌||◌, eqb, leb, List, get_or, drop, sym, refl, ap, ◌∙◌, arith, ltb-true, lt-ltb, eq-eqb, ne_eqb, eqb-true, le-leb, leb-true}
+use Rattle.std.proofs.Common.{◌≡◌, ℕ, zero, suc, ◌+◌, ◌-◌, ◌*◌, ◌<◌, ◌≤◌, Bool, true, false, cond, not, ◌||◌, eqb, leb, List, Option, get_or, drop, sym, refl, ap, ◌∙◌, arith, ltb-true, lt-ltb, eq-eqb, ne_eqb, eqb-true, le-leb, leb-true}
 use mathlib.Core.Bool.{and-true}
 use Rattle.lists.proofs.Rules.{broken, holds, none, keep, all_kept, decides}
 use Rattle.panel.specs.Panels.{rows_of}
@@ -33,7 +33,7 @@ pub first_step : (steps : List Step) (k : ℕ) → k ≡ 0 → true ≡ after_wr
 first_step steps k e = rw (eq-eqb k 0 e)
 
 -- by the kind of the step before k, which stands at index `end` of a file
-pub later_step : (panel n k at end : ℕ) (file : List ℕ) {kind : Kind} {b : Bool} → (k ≡ 0 → ⊥) → k ≤ n
+pub later_step : (panel n k at end : ℕ) (file : List ℕ) {kind : Option Kind} {b : Bool} → (k ≡ 0 → ⊥) → k ≤ n
     → drop end file ≡ rest_of panel (k - 1) (drop at file) → kind ≡ kind_of (step_of panel (drop end file)) → b ≡ kind_is_write kind
     → b ≡ after_write (steps_of panel n (drop at file)) k
 later_step panel n k at end file d h rest read is =

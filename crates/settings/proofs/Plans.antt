@@ -1,19 +1,20 @@
 -- The plan of an accepted file.
 -- Assumes nothing.
 use mathlib.Core.Path.{◌≡◌, refl, sym, ap, ◌∙◌}
-use mathlib.Core.Bool.{true, false, false≢true}
 use mathlib.Core.List.{List}
 use Prim.Native.Nat.{ℕ, ◌+◌}
 use native.Mathlib.Omega.{arith}
 use lib.ListN.{get_or}
-use Rattle.panel.specs.Panels.{frames_of, shape_of}
-use Rattle.panel.specs.declared.Shape.{Shape}
-use Rattle.panel.proofs.Panels.{size_of}
-use Rattle.settings.specs.Settings.{panel_of, row_bytes_in, rows_in, stride_in, shape_in, start_count, start_steps, stop_count, stop_steps, settings_good}
+use Rattle.panel.specs.Panels.{frames_of, shape_of, Sizes}
+use Rattle.panel.specs.Facts.{sizes}
+use Rattle.panel.specs.Names.{panel_code}
+use Rattle.panel.specs.declared.sizes.Shape.{Shape}
+use Rattle.panel.specs.declared.table.Panel.{Panel}
+use Rattle.panel.proofs.Panels.{sized_of}
+use Rattle.settings.specs.Settings.{panel_of, row_bytes_in, rows_in, stride_in, start_count, start_steps, stop_count, stop_steps}
 use Rattle.settings.specs.Facts.{StopAt, Accepted}
-use Rattle.settings.specs.Plans.{SectionOf, PlanOf, PlannedFor}
+use Rattle.settings.specs.Plans.{SectionOf, PlanOf}
 use Rattle.settings.specs.declared.Plan.{Plan}
-use Rattle.settings.specs.declared.Planned.{Planned}
 use Rattle.settings.proofs.Sections.{stop_count_lem, stop_steps_lem}
 use Rattle.settings.proofs.Accepted.{good-long, good-panel, good-starts, good_stops}
 
@@ -44,44 +45,36 @@ module _ {file : List ℕ} {stop : ℕ} (accepted : Accepted file stop) where
         steps_are = sym (stop_steps_lem begins);
       }
 
-  pub plan_made : {panel : ℕ} {shape : Shape} → panel ≡ panel_of file → shape ≡ shape_of panel
+  pub plan_made : {panel : Panel} {shape : Shape} {n m : ℕ} → panel_code panel ≡ panel_of file → sizes shape ≡ shape_of (panel_code panel)
+      → n ≡ get_or file 2 0 → m ≡ get_or file stop 0
       → PlanOf file
       (record {
         panel = panel;
         shape = shape;
-        start = record { at = 3; count = get_or file 2 0 };
-        stop = record { at = stop + 1; count = get_or file stop 0 };
+        start = record { at = 3; count = n };
+        stop = record { at = stop + 1; count = m };
       })
-  plan_made {panel} {shape} p e =
-      let good = accepted.good in
-      let is : shape ≡ shape_in file = e ∙ ap shape_of p in
+  plan_made {panel} {shape} p e n m =
       record {
-        good = good;
+        good = accepted.good;
         panel-is = p;
-        shape_is = is;
-        sized = rw is (size_of (panel_of file) (good-panel file good));
-        start = rw p start_section;
-        stop = rw p stop_section_lem;
+        shape_is = e ∙ ap shape_of p;
+        sized = sized_of shape;
+        start = rw (p, n) start_section;
+        stop = rw (p, m) stop_section_lem;
       }
-
--- a refused file has no plan
-pub no_plan_for : {file : List ℕ} {r : Planned} → settings_good file ≡ false → r.ok ≡ false → PlannedFor file r
-no_plan_for e f = record { accepted = f ∙ sym e; plan = λ t. absurd (false≢true (sym f ∙ t)) }
-
-pub planned : {file : List ℕ} {plan : Plan} → PlanOf file plan → PlannedFor file (record { ok = true; plan = plan })
-planned of = record { accepted = sym of.good; plan = λ t. of }
 
 -- ---- the sizes of a plan are those of its file
 
 module _ {file : List ℕ} {plan : Plan} (of : PlanOf file plan) where
   pub bytes_is : plan.shape.bytes ≡ row_bytes_in file
-  bytes_is = ap (λ (s : Shape). s.bytes) of.shape_is
+  bytes_is = ap (λ (s : Sizes). s.bytes) of.shape_is
 
   pub rows_is : plan.shape.rows ≡ rows_in file
-  rows_is = ap (λ (s : Shape). s.rows) of.shape_is
+  rows_is = ap (λ (s : Sizes). s.rows) of.shape_is
 
   pub stride_is : plan.shape.stride ≡ stride_in file
-  stride_is = ap (λ (s : Shape). s.stride) of.shape_is
+  stride_is = ap (λ (s : Sizes). s.stride) of.shape_is
 
   pub frames-is : plan.shape.frames ≡ frames_of (panel_of file)
-  frames-is = ap (λ (s : Shape). s.frames) of.shape_is
+  frames-is = ap (λ (s : Sizes). s.frames) of.shape_is

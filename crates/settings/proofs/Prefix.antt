@@ -1,23 +1,22 @@
--- How `has_prefix` goes on byte by byte: at byte k of s and byte i of the prefix p.
+-- How bytes begin, as std tells it.
 -- Assumes nothing.
-use mathlib.Core.Path.{◌≡◌}
-use mathlib.Core.Bool.{true, false}
-use mathlib.Core.List.{List}
-use Prim.Native.Nat.{ℕ, ◌+◌, ◌≤◌, ◌<◌}
-use native.Mathlib.Numerals.{add-one}
+use mathlib.Core.Path.{◌≡◌, refl, sym, ◌∙◌}
+use mathlib.Core.List.{List, [], ◌∷◌}
+use Prim.Native.Nat.{ℕ}
+use native.Mathlib.Decide.{ℕ_discrete}
 use borrow.Author.Tests.{eq-eqb, ne_eqb}
-use lib.ListN.{length, get_or, drop, drop_of_length-le}
-use lib.Seq.{drop-cons}
+use lib.Dec.{eqb}
+use Rattle.std.specs.List.{starts_with}
 use Rattle.settings.specs.Settings.{has_prefix}
 
-module _ (s p : List ℕ) (k i : ℕ) where
-  pub prefix_differs : k < length s → i < length p → (get_or s k 0 ≡ get_or p i 0 → ⊥)
-      → has_prefix (drop k s) (drop i p) ≡ false
-  prefix_differs h l n = rw (drop-cons s k 0 h, drop-cons p i 0 l, ne_eqb _ _ n)
+eqb_swap : (a b : ℕ) → eqb a b ≡ eqb b a
+eqb_swap a b =
+    elim (ℕ_discrete a b) [
+      | yes e ↦ eq-eqb a b e ∙ sym (eq-eqb b a (sym e))
+      | no d ↦ ne_eqb a b d ∙ sym (ne_eqb b a (λ q. d (sym q)))
+    ]
 
-  pub prefix_more : k < length s → i < length p → get_or s k 0 ≡ get_or p i 0
-      → has_prefix (drop k s) (drop i p) ≡ has_prefix (drop (k + 1) s) (drop (i + 1) p)
-  prefix_more h l e = rw (add-one k, add-one i, drop-cons s k 0 h, drop-cons p i 0 l, eq-eqb _ _ e)
-
-  pub prefix_over : length p ≤ i → has_prefix (drop k s) (drop i p) ≡ true
-  prefix_over h = rw (drop_of_length-le p h)
+pub prefix_is : (s p : List ℕ) → starts_with eqb s p ≡ has_prefix s p
+prefix_is s [] = refl
+prefix_is [] (y ∷ ys) = refl
+prefix_is (x ∷ xs) (y ∷ ys) = rw (eqb_swap y x, prefix_is xs ys)

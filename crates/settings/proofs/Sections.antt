@@ -1,7 +1,7 @@
 -- The rules of a file, section by section.
 -- Assumes nothing.
 use mathlib.Core.Path.{◌≡◌, sym, ap, ◌∙◌}
-use mathlib.Core.Bool.{Bool, true, false, ◌&&◌, and-false, and-true, false≢true}
+use mathlib.Core.Bool.{Bool, true, false, ◌&&◌, and-false, and-true}
 use mathlib.Core.List.{List}
 use Prim.Native.Nat.{ℕ, ◌+◌, ◌-◌, ◌≤◌, ◌<◌}
 use native.Mathlib.Nat.{add-zero}
@@ -13,8 +13,10 @@ use lib.ListN.{length, get_or, drop, length-drop}
 use lib.Seq.{drop-drop, get_or-drop}
 use Rattle.lists.specs.Rules.{every}
 use Rattle.lists.proofs.Rules.{broken, holds, none, keep, all_kept, every_parts, others}
-use Rattle.settings.specs.Settings.{steps_of, rest_of, all_steps, panel_of, start_count, stop_section, stop_count, stop_steps, end_of, head_rules, start_step_rules, stop_section_rules, settings_rules, settings_good}
-use Rattle.settings.specs.Facts.{Readable, StopAt, StepsPassed, StartPassed, LaidOut}
+use Rattle.settings.specs.Settings.{steps_of, rest_of, all_steps, panel_of, start_count, start_steps, stop_section, stop_count, stop_steps, end_of, head_rules, start_step_rules, stop_section_rules, settings_rules, settings_good}
+use Rattle.std.specs.Prelude.{Some, None}
+use Rattle.std.specs.Bool.{then_some}
+use Rattle.settings.specs.Facts.{Readable, StopAt, EndsAt, Passed, StartPassed, LaidOut}
 use Rattle.settings.specs.declared.StepsEnd.{StepsEnd}
 
 -- ---- the first rules
@@ -25,16 +27,16 @@ readable file e =
 
 -- ---- the start steps
 
-pub start-refused : {file : List ℕ} (k : ℕ) → get_or (start_step_rules file) k true ≡ false → StartPassed file (record { ok = false; stop = 0 })
-start-refused {file} k e = record { good = sym (broken k (start_step_rules file) e); stop = λ t. absurd (false≢true t) }
+pub start-refused : {file : List ℕ} (k : ℕ) → get_or (start_step_rules file) k true ≡ false → StartPassed file None
+start-refused {file} k e = record { good = sym (broken k (start_step_rules file) e); stop = tt }
 
-pub start-passed : {file : List ℕ} {r : StepsEnd} → StepsPassed (panel_of file) (start_count file) 3 file r → r.ok ≡ true
-    → r.channels ≡ true → r.level ≡ true → StartPassed file (record { ok = true; stop = r.end })
-start-passed passed ok channels level =
-    let written = keep (sym (passed.channels ok) ∙ channels) (keep (sym (passed.level ok) ∙ level) none) in
+pub start-passed : {file : List ℕ} {r : StepsEnd} → all_steps (start_steps file) ≡ true → Passed (panel_of file) (start_count file) 3 file r
+    → r.channels ≡ true → r.level ≡ true → StartPassed file (Some r.end)
+start-passed all passed channels level =
+    let written = keep (sym passed.channels ∙ channels) (keep (sym passed.level ∙ level) none) in
     record {
-      good = sym (all_kept (keep (sym passed.good ∙ ok) written));
-      stop = λ t. record { within = passed.within; rest = passed.rest };
+      good = sym (all_kept (keep all written));
+      stop = record { within = passed.ends.within; rest = passed.ends.rest };
     }
 
 -- ---- the stop section, at index `stop`
@@ -61,26 +63,29 @@ module _ {file : List ℕ} {stop : ℕ} (begins : StopAt file stop) where
   pub many_stops : 32 < get_or file stop 0 → every (stop_section_rules file) ≡ false
   many_stops h = broken 1 (stop_section_rules file) (lt-leb (stop_count file) 32 (omega (arith, stop_count_lem)))
 
-  module _ {r : StepsEnd} (passed : StepsPassed (panel_of file) (get_or file stop 0) (stop + 1) file r) where
-    pub bad_stop : r.ok ≡ false → every (stop_section_rules file) ≡ false
-    bad_stop e = broken 2 (stop_section_rules file) (ap all_steps stop_steps_lem ∙ sym passed.good ∙ e)
+  pub bad_stop : all_steps (steps_of (panel_of file) (get_or file stop 0) (drop (stop + 1) file)) ≡ false
+      → every (stop_section_rules file) ≡ false
+  bad_stop e = broken 2 (stop_section_rules file) (ap all_steps stop_steps_lem ∙ e)
 
-    end_length : length (end_of file) ≡ length file - r.end
-    end_length = ap length (stop_end ∙ sym passed.rest) ∙ length-drop r.end file
+  module _ {end : ℕ} (ends : EndsAt (panel_of file) (get_or file stop 0) (stop + 1) file end) where
+    end_length : length (end_of file) ≡ length file - end
+    end_length = ap length (stop_end ∙ sym ends.rest) ∙ length-drop end file
 
-    at_end : eqb r.end (length file) ≡ eqb (length (end_of file)) 0
+    at_end : eqb end (length file) ≡ eqb (length (end_of file)) 0
     at_end =
-        let w = passed.within in
-        elim (ℕ_discrete r.end (length file)) [
+        let w = ends.within in
+        elim (ℕ_discrete end (length file)) [
           | yes e ↦ eq-eqb _ _ e ∙ sym (eq-eqb (length (end_of file)) 0 (omega (arith, end_length)))
           | no d ↦ ne_eqb _ _ d ∙ sym (ne_eqb (length (end_of file)) 0 (λ z. d (omega (arith, end_length))))
         ]
 
-    pub stop_rules : stop < length file → get_or file stop 0 ≤ 32 → r.ok ≡ true → eqb r.end (length file) ≡ every (stop_section_rules file)
-    stop_rules h n ok =
+    pub stop_rules : stop < length file → get_or file stop 0 ≤ 32
+        → all_steps (steps_of (panel_of file) (get_or file stop 0) (drop (stop + 1) file)) ≡ true
+        → eqb end (length file) ≡ every (stop_section_rules file)
+    stop_rules h n all =
         let some : ltb 0 (length (stop_section file)) ≡ true = lt-ltb 0 (length (stop_section file)) (omega (arith, stop-length)) in
         let few : leb (stop_count file) 32 ≡ true = le-leb (stop_count file) 32 (omega (arith, stop_count_lem)) in
-        let good : all_steps (stop_steps file) ≡ true = ap all_steps stop_steps_lem ∙ sym passed.good ∙ ok in
+        let good : all_steps (stop_steps file) ≡ true = ap all_steps stop_steps_lem ∙ all in
         at_end
         ∙ sym (and-true (eqb (length (end_of file)) 0))
         ∙ sym (others 3 (stop_section_rules file) (keep some (keep few (keep good none))))
@@ -94,25 +99,23 @@ module _ (file : List ℕ) where
       every_parts 5 (settings_rules file)
       ∙ ap (λ (b : Bool). every (head_rules file) && b) (every_parts 3 (drop 5 (settings_rules file)))
 
-  refused : settings_good file ≡ false → LaidOut file (record { ok = false; stop = 0 })
-  refused e = record { good = sym e; stop = λ t. absurd (false≢true t) }
+  refused : settings_good file ≡ false → LaidOut file None
+  refused e = record { good = sym e; stop = tt }
 
-  pub head_broken : every (head_rules file) ≡ false → LaidOut file (record { ok = false; stop = 0 })
+  pub head_broken : every (head_rules file) ≡ false → LaidOut file None
   head_broken e = refused (good-parts ∙ rw e)
 
-  pub start_broken : every (start_step_rules file) ≡ false → LaidOut file (record { ok = false; stop = 0 })
+  pub start_broken : every (start_step_rules file) ≡ false → LaidOut file None
   start_broken e = refused (good-parts ∙ rw (e, and-false))
 
-  pub stop_broken : every (stop_section_rules file) ≡ false → LaidOut file (record { ok = false; stop = 0 })
-  stop_broken e = refused (good-parts ∙ rw (e, and-false, and-false))
-
-  pub laid_out : {stop : ℕ} → StopAt file stop
-      → every (head_rules file) ≡ true → every (start_step_rules file) ≡ true → every (stop_section_rules file) ≡ true
-      → LaidOut file (record { ok = true; stop = stop })
-  laid_out begins head start rest =
-      let some : 0 < length (stop_section file) = ltb-true _ _ (holds 0 (stop_section_rules file) rest) in
-      let good : settings_good file ≡ true = good-parts ∙ rw (head, start, rest) in
+  -- where the first two parts keep their rules, the third decides
+  pub laid_out : {stop : ℕ} → StopAt file stop → every (head_rules file) ≡ true → every (start_step_rules file) ≡ true
+      → (good : Bool) → good ≡ every (stop_section_rules file) → LaidOut file (then_some good stop)
+  laid_out begins head start true e =
+      let some : 0 < length (stop_section file) = ltb-true _ _ (holds 0 (stop_section_rules file) (sym e)) in
+      let good : settings_good file ≡ true = good-parts ∙ rw (head, start, ← e) in
       record {
         good = sym good;
-        stop = λ t. record { good = good; within = omega (arith, stop-length begins); rest = begins.rest };
+        stop = record { good = good; within = omega (arith, stop-length begins); rest = begins.rest };
       }
+  laid_out begins head start false e = refused (good-parts ∙ rw (← e, and-false, and-false))

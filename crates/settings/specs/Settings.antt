@@ -2,9 +2,8 @@
 -- Assumes nothing.
 use Rattle.std.specs.Prelude.{ℕ, zero, suc, ◌+◌, ◌*◌, Bool, true, false, cond, ◌&&◌, ◌||◌, List, [], ◌∷◌, ◌++◌, ltb, leb, eqb, length, get_or, take, drop}
 use Rattle.lists.specs.Rules.{every}
-use Rattle.panel.specs.Panels.{is_panel, rows_of, row_bytes_of, stride_of, shape_of}
+use Rattle.panel.specs.Panels.{is_panel, rows_of, row_bytes_of, stride_of, shape_of, Sizes}
 use Rattle.panel.specs.Registers.{data_length, channel_data, gate_source_level}
-use Rattle.panel.specs.declared.Shape.{Shape}
 
 -- the longest file that is accepted
 abbrev pub longest_file : ℕ
@@ -98,7 +97,7 @@ rows_in file = rows_of (panel_of file)
 abbrev pub stride_in : (file : List ℕ) → ℕ
 stride_in file = stride_of (panel_of file)
 
-abbrev pub shape_in : (file : List ℕ) → Shape
+abbrev pub shape_in : (file : List ℕ) → Sizes
 shape_in file = shape_of (panel_of file)
 
 abbrev pub start_count : (file : List ℕ) → ℕ

@@ -1,17 +1,17 @@
 // The settings file: the check of its rules, and the reading of its steps.
 #![tactic(auto)]
 
-ghost use Rattle.std.specs.Prelude.{◌≡◌, false, ◌+◌, ◌-◌, ◌*◌, ◌≤◌, ◌<◌, length, get_or, drop};
+ghost use Rattle.std.specs.Prelude.{◌≡◌, ℕ, ◌+◌, ◌≤◌, ◌<◌, length, get_or, drop};
 ghost use Rattle.lists.specs.Rules.{every};
+ghost use Rattle.panel.specs.Names.{panel_code};
 ghost use Rattle.panel.specs.Registers.{data_length};
+ghost use Rattle.refusal.specs.Numbers.{number_given};
 ghost use Rattle.settings.specs.Settings.{
-  write,
   has_prefix,
   required_data,
   write_of,
   wait_of,
   step_of,
-  size_of,
   steps_of,
   panel_of,
   longest_file,
@@ -25,6 +25,8 @@ ghost use Rattle.settings.specs.Facts.{
   kind_of,
   kind_size,
   marked,
+  kind_by,
+  size_found,
   StepsPassed,
   Readable,
   StopAt,
@@ -34,14 +36,41 @@ ghost use Rattle.settings.specs.Facts.{
   Found,
 };
 
-use panel::Shape;
+mod file;
 
-// What stands at a place of the file: a write of a register, a wait in ms, or no step.
-#[derive(Clone, Copy)]
+pub use file::AcceptedFile;
+use panel::{Panel, Shape};
+use refusal::Refusal;
+
+// A step: a write of a register, or a wait in ms.
+#[derive(Clone, Copy, Debug, PartialEq, Eq)]
 pub enum Kind {
     Write(u8),
     Wait(u16),
-    Malformed,
+}
+
+impl Kind {
+    // How many bytes the step takes.
+    pub fn size(self) -> usize
+        ensures { result ≡ kind_size self }
+    {
+        match self {
+            Kind::Write(register) => 2 + panel::data_length(register),
+            Kind::Wait(_) => 3,
+        }
+    }
+}
+
+// Whether a register's data, from index `at` on, are what this panel asks of it.
+fn data_good(file: &[u8], at: usize, panel: Panel, register: u8) -> bool
+    requires { at + data_length register ≤ length file.now }
+    ensures { result ≡ has_prefix (drop at file.now) (required_data (panel_code panel) register) }
+{
+    match register {
+        0x01 => has_prefix(file, at, &panel.channel_data()),
+        0x04 => has_prefix(file, at, &[panel.gate_source_level()]),
+        _ => true,
+    }
 }
 
 // Whether the bytes of a file from index `at` on begin with `prefix`, which is no longer than they are.
@@ -49,225 +78,136 @@ fn has_prefix(file: &[u8], at: usize, prefix: &[u8]) -> bool
     requires { at + length prefix.now ≤ length file.now }
     ensures { result ≡ has_prefix (drop at file.now) prefix.now }
 {
-    let mut i = 0;
-    while i < prefix.len() {
-        if file[at + i] != prefix[i] {
-            return false;
-        }
-        i += 1;
-    }
-    true
+    file[at..].starts_with(prefix)
 }
 
-// Whether a register's data, from index `at` on, are what this panel asks of it.
-fn data_good(file: &[u8], at: usize, panel: usize, register: u8) -> bool
-    requires { (panel < 3) × (at + data_length register ≤ length file.now) }
-    ensures { result ≡ has_prefix (drop at file.now) (required_data panel register) }
+// How many bytes a write of a register takes that stands at index `at`, if its data are there and are what this panel asks. A register
+// that no step may write has no data, and its size would be 2. No `then_some`: a test of this length is read more easily as an `if`.
+fn write_size(file: &[u8], at: usize, panel: Panel, register: u8) -> Option<usize>
+    requires { at ≤ length file.now }
+    ensures { result ≡ size_found (write_of (panel_code panel) register (drop (at + 2) file.now)) }
 {
-    if register == 0x01 {
-        let channels = panel::channel_data(panel);
-        return has_prefix(file, at, &channels);
+    let size = Kind::Write(register).size();
+    if 2 < size && size <= file.len() - at && data_good(file, at + 2, panel, register) {
+        Some(size)
+    } else {
+        None
     }
-    if register == 0x04 {
-        let level = [panel::gate_source_level(panel)];
-        return has_prefix(file, at, &level);
-    }
-    true
 }
 
-// How many bytes a write of a register takes, which stands at index `at`; 0 where it is none.
-fn write_size(file: &[u8], at: usize, panel: usize, register: u8) -> usize
-    requires { (panel < 3) × (at ≤ length file.now) }
-    ensures { result ≡ size_of (write_of panel register (drop (at + 2) file.now)) }
+// How many bytes a wait of so many ms takes, if it is neither too short nor too long.
+#[tactic(auto, unfolding(crate::specs::Settings::wait_of))]
+fn wait_size(ms: u16) -> Option<usize>
+    ensures { result ≡ size_found (wait_of ms) }
 {
-    let n = panel::data_length(register);
-    if n == 0 {
-        return 0;
+    match ms {
+        1..=1000 => Some(3),
+        _ => None,
     }
-    if file.len() - at < 2 + n {
-        return 0;
-    }
-    if data_good(file, at + 2, panel, register) {
-        return 2 + n;
-    }
-    0
 }
 
-// The ms of a wait, from its two bytes.
-fn wait_ms(high: u8, low: u8) -> u32
-    ensures { (result ≡ high * 256 + low) × (result ≤ 65535) }
-{
-    (high as u32) * 256 + (low as u32)
-}
-
-// How many bytes a wait takes; 0 where it is none.
-fn wait_size(high: u8, low: u8) -> usize
-    ensures { result ≡ size_of (wait_of (high * 256 + low)) }
-{
-    let ms = wait_ms(high, low);
-    if ms < 1 {
-        return 0;
-    }
-    if 1000 < ms {
-        return 0;
-    }
-    3
-}
-
-// How many bytes the step at a place of the file takes; 0 where there is none. Only the loop of `pass_steps` calls it, so that it is
-// compiled into that loop: all the tests of a settings file are made anew at every call on a store.
-fn step_size(file: &[u8], at: usize, panel: usize) -> usize
-    requires { (panel < 3) × (at ≤ length file.now) }
-    ensures { result ≡ size_of (step_of panel (drop at file.now)) }
+// How many bytes the step at a place of the file takes, if there is one. It is compiled into the loop of `pass_steps`: all the tests of a
+// settings file are made anew at every call on a store. A size alone leaves that loop faster than a kind with its size.
+#[inline(always)]
+fn step_size(file: &[u8], at: usize, panel: Panel) -> Option<usize>
+    requires { at ≤ length file.now }
+    ensures { result ≡ size_found (step_of (panel_code panel) (drop at file.now)) }
 {
     if file.len() - at < 3 {
-        return 0;
+        return None;
     }
-    let tag = file[at];
-    let first = file[at + 1];
-    if tag == 0x57 {
-        return write_size(file, at, panel, first);
+    match file[at] {
+        0x57 => write_size(file, at, panel, file[at + 1]),
+        0x44 => wait_size(u16::from_be_bytes([file[at + 1], file[at + 2]])),
+        _ => None,
     }
-    if tag == 0x44 {
-        let second = file[at + 2];
-        return wait_size(first, second);
-    }
-    0
 }
 
-// How many bytes a step takes.
-pub fn size(kind: Kind) -> usize
-    ensures { result ≡ kind_size kind }
+// The kind of the step at a place of the file, where one stands, told by its bytes.
+fn kind_at(file: &[u8], at: usize) -> Kind
+    requires { at + 3 ≤ length file.now }
+    ensures { result ≡ kind_by (get_or file.now at 0) (get_or file.now (at + 1) 0) (get_or file.now (at + 2) 0) }
 {
-    match kind {
-        Kind::Write(register) => 2 + panel::data_length(register),
-        Kind::Wait(_) => 3,
-        Kind::Malformed => 0,
+    match file[at] {
+        0x57 => Kind::Write(file[at + 1]),
+        _ => Kind::Wait(u16::from_be_bytes([file[at + 1], file[at + 2]])),
     }
 }
 
-// Marks the register that is written by the step at a place of the file, where that is a write.
-fn mark(written: &mut [bool; 10], file: &[u8], at: usize)
-    requires { (at + 1 < length file.now) × (get_or file.now (at + 1) 0 < 10) }
-    ensures { written.new
-        ≡ marked (get_or file.now at 0) (get_or file.now (at + 1) 0) written.old }
+// The step at a place of the file, if there is one.
+pub fn step_at(file: &[u8], at: usize, panel: Panel) -> Option<Kind>
+    requires { at ≤ length file.now }
+    ensures { result ≡ kind_of (step_of (panel_code panel) (drop at file.now)) }
 {
-    let tag = file[at];
-    let register = file[at + 1] as usize;
-    if tag == 0x57 {
-        written[register] = true;
+    step_size(file, at, panel)?;
+    Some(kind_at(file, at))
+}
+
+// Marks the register that a step writes, if it writes one. A mark is a store alone; two tests a step would make the loop slower.
+fn mark(written: &mut [bool; 10], kind: Kind)
+    requires { (register : ℕ) → kind ≡ Kind.Write register → register < 10 }
+    ensures { written.new ≡ marked kind written.old }
+{
+    if let Kind::Write(register) = kind {
+        written[usize::from(register)] = true;
     }
 }
 
-// Whether steps were passed, the index after them, and whether they write the channels (0x01) and the level (0x04).
+// The index after some steps, and whether they write the channels (0x01) and the level (0x04).
 #[derive(Clone, Copy)]
 pub struct StepsEnd {
-    pub ok: bool,
     pub end: usize,
     pub channels: bool,
     pub level: bool,
 }
 
-// Passes n steps, from index `at` on.
-pub fn pass_steps(file: &[u8], panel: usize, at: usize, n: usize) -> StepsEnd
-    requires { (panel < 3) × (at ≤ length file.now) }
-    ensures { StepsPassed panel n at file.now result }
+// Passes n steps, from index `at` on. An error is the index of the first bytes that are no step.
+pub fn pass_steps(file: &[u8], panel: Panel, at: usize, n: usize) -> Result<StepsEnd, usize>
+    requires { at ≤ length file.now }
+    ensures { StepsPassed (panel_code panel) n at file.now result }
 {
     let mut end = at;
-    let mut left = n;
     let mut written = [false; 10];
-    while 0 < left {
-        let z = step_size(file, end, panel);
-        if z == 0 {
-            return StepsEnd {
-                ok: false,
-                end,
-                channels: false,
-                level: false,
-            };
-        }
-        mark(&mut written, file, end);
-        end += z;
-        left -= 1;
+    for _ in 0..n {
+        let Some(size) = step_size(file, end, panel) else {
+            return Err(end);
+        };
+        let kind = kind_at(file, end);
+        mark(&mut written, kind);
+        end += size;
     }
-    StepsEnd {
-        ok: true,
+    Ok(StepsEnd {
         end,
         channels: written[0x01],
         level: written[0x04],
-    }
-}
-
-// The step at a place of the file, told by its bytes once it was passed.
-pub fn step_at(file: &[u8], at: usize, panel: usize) -> Kind
-    requires { (panel < 3) × (at ≤ length file.now) }
-    ensures { result ≡ kind_of (step_of panel (drop at file.now)) }
-{
-    let passed = pass_steps(file, panel, at, 1);
-    if !passed.ok {
-        return Kind::Malformed;
-    }
-    let first = file[at + 1];
-    if file[at] == 0x57 {
-        return Kind::Write(first);
-    }
-    let second = file[at + 2];
-    Kind::Wait(wait_ms(first, second) as u16)
+    })
 }
 
 // The panel that a file names.
-fn panel_of(file: &[u8]) -> usize
-    requires { 1 < length file.now }
-    ensures { result ≡ panel_of file.now }
+fn panel_of(file: &[u8]) -> Panel
+    requires { Readable file.now }
+    ensures { panel_code result ≡ panel_of file.now }
 {
-    file[1] as usize
-}
-
-// Whether a file keeps the rules that were asked of it, and the index of its stop section.
-#[derive(Clone, Copy)]
-struct Layout {
-    ok: bool,
-    stop: usize,
+    Panel::try_from(u32::from(file[1])).unwrap()
 }
 
 // Whether the panel section and the count of the start steps keep their rules.
 fn head_good(file: &[u8]) -> bool
     ensures { result ≡ every (head_rules file.now) }
 {
-    if file.len() < 3 {
-        return false;
-    }
-    if file[0] != 1 {
-        return false;
-    }
-    if !panel::is_panel(file[1] as u32) {
-        return false;
-    }
-    if file[2] < 2 {
-        return false;
-    }
-    file[2] <= 32
+    3 <= file.len()
+        && file[0] == 1
+        && Panel::try_from(u32::from(file[1])).is_ok()
+        && (2..=32).contains(&file[2])
 }
 
-// Whether the start steps keep their rules, and where the stop section begins.
-fn pass_start(file: &[u8]) -> Layout
+// Where the stop section begins, if the start steps keep their rules.
+fn pass_start(file: &[u8]) -> Option<usize>
     requires { Readable file.now }
     ensures { StartPassed file.now result }
 {
-    let panel = panel_of(file);
-    let n = file[2] as usize;
-    let start = pass_steps(file, panel, 3, n);
-    if !start.ok {
-        return Layout { ok: false, stop: 0 };
-    }
-    if !start.channels {
-        return Layout { ok: false, stop: 0 };
-    }
-    if !start.level {
-        return Layout { ok: false, stop: 0 };
-    }
-    let stop = start.end;
-    Layout { ok: true, stop }
+    let start = pass_steps(file, panel_of(file), 3, usize::from(file[2])).ok()?;
+    (start.channels && start.level).then_some(start.end)
 }
 
 // Whether the stop steps, whose count stands at index `stop`, keep their rules, and nothing follows them.
@@ -275,49 +215,40 @@ fn stop_good(file: &[u8], stop: usize) -> bool
     requires { (Readable file.now) × (StopAt file.now stop) }
     ensures { result ≡ every (stop_section_rules file.now) }
 {
-    if file.len() <= stop {
+    let Some(&n) = file.get(stop) else {
         return false;
+    };
+    match pass_steps(file, panel_of(file), stop + 1, usize::from(n)) {
+        Ok(passed) => n <= 32 && passed.end == file.len(),
+        Err(_) => false,
     }
-    let n = file[stop] as usize;
-    if 32 < n {
-        return false;
-    }
-    let end = pass_steps(file, panel_of(file), stop + 1, n);
-    if !end.ok {
-        return false;
-    }
-    end.end == file.len()
 }
 
-// Whether a file keeps every rule, and where its stop section begins.
-fn laid_out(file: &[u8]) -> Layout
+// Where the stop section begins, if a file keeps every rule.
+fn laid_out(file: &[u8]) -> Option<usize>
     ensures { LaidOut file.now result }
 {
     if !head_good(file) {
-        return Layout { ok: false, stop: 0 };
+        return None;
     }
-    let start = pass_start(file);
-    let stop = start.stop;
-    if !start.ok {
-        return Layout { ok: false, stop: 0 };
-    }
-    if !stop_good(file, stop) {
-        return Layout { ok: false, stop: 0 };
-    }
-    Layout { ok: true, stop }
+    let stop = pass_start(file)?;
+    stop_good(file, stop).then_some(stop)
 }
 
-// The settings check: 0 where the file keeps every rule, else 2.
-pub fn check_settings(file: &[u8]) -> u8
-    ensures { result ≡ check_settings file.now }
+// The settings check.
+pub fn check_settings(file: &[u8]) -> Result<(), Refusal>
+    ensures { number_given result ≡ check_settings file.now }
 {
-    let layout = laid_out(file);
-    if layout.ok { 0 } else { 2 }
+    match laid_out(file) {
+        Some(_) => Ok(()),
+        None => Err(Refusal::Settings),
+    }
 }
 
 // ---- an accepted file, kept by value
 
-// The bytes of the file stand at the front, and `len` is how many.
+// The bytes of the file stand at the front, and `len` is how many. No slice or growing buffer: `store::Store` holds a Settings, of which the
+// theorems speak, and memory is fixed (no heap).
 #[derive(Clone, Copy)]
 pub struct Settings {
     pub file: [u8; 637],
@@ -358,17 +289,10 @@ pub struct Section {
 // The panel, its sizes, and the sections.
 #[derive(Clone, Copy)]
 pub struct Plan {
-    pub panel: usize,
+    pub panel: Panel,
     pub shape: Shape,
     pub start: Section,
     pub stop: Section,
-}
-
-// Whether a file is accepted, and its plan where it is.
-#[derive(Clone, Copy)]
-pub struct Planned {
-    pub ok: bool,
-    pub plan: Plan,
 }
 
 // The plan of an accepted file whose stop section begins at index `stop`.
@@ -377,98 +301,61 @@ fn make_plan(file: &[u8], stop: usize) -> Plan
     ensures { PlanOf file.now result }
 {
     let panel = panel_of(file);
-    let shape = panel::shape_of(panel);
     Plan {
         panel,
-        shape,
+        shape: panel.shape(),
         start: Section {
             at: 3,
-            count: file[2] as usize,
+            count: usize::from(file[2]),
         },
         stop: Section {
             at: stop + 1,
-            count: file[stop] as usize,
+            count: usize::from(file[stop]),
         },
     }
 }
 
-// No plan, where there is no accepted file; nothing reads it.
-pub fn no_plan() -> Planned
-    ensures { result.ok ≡ false }
-{
-    Planned {
-        ok: false,
-        plan: Plan {
-            panel: 0,
-            shape: Shape {
-                bytes: 0,
-                rows: 0,
-                stride: 0,
-                frames: 0,
-            },
-            start: Section { at: 0, count: 0 },
-            stop: Section { at: 0, count: 0 },
-        },
-    }
-}
-
-// Whether a file is accepted, and what a call reads from it.
-pub fn plan_of(file: &[u8]) -> Planned
+// What a call reads from a file, if it is accepted.
+pub fn plan_of(file: &[u8]) -> Option<Plan>
     ensures { PlannedFor file.now result }
 {
-    let layout = laid_out(file);
-    let stop = layout.stop;
-    if !layout.ok {
-        return no_plan();
-    }
-    let plan = make_plan(file, stop);
-    Planned { ok: true, plan }
+    let stop = laid_out(file)?;
+    Some(make_plan(file, stop))
 }
 
-// The data of a write of a register that stands at index `at` of the file.
-pub fn data_of(file: &[u8], panel: usize, at: usize, register: u8) -> &[u8]
-    requires { (kind_of (step_of panel (drop at file.now)) ≡ Kind.Write register) × (at ≤ length file.now) }
-    ensures { step_of panel (drop at file.now) ≡ write register result.now }
-{
-    let start = at + 2;
-    let end = start + panel::data_length(register);
-    &file[start..end]
-}
-
-// The next write among some steps: the ms of the waits before it, its index in the file, and the steps left from it on.
+// The index of a step in the file, and how many steps are left from it on. No Section: `left` is never 0, and contracts say other things of
+// it.
 #[derive(Clone, Copy)]
-pub struct NextWrite {
-    pub waits: u32,
+pub struct Place {
     pub at: usize,
     pub left: usize,
 }
 
+// The next write among some steps: the ms of the waits before it, and where it stands, if there is one.
+#[derive(Clone, Copy)]
+pub struct NextWrite {
+    pub waits: u32,
+    pub write: Option<Place>,
+}
+
 // The next write among n steps, from index `at` on.
-pub fn next_write(file: &[u8], panel: usize, at: usize, n: usize) -> NextWrite
-    requires { (panel < 3) × (at ≤ length file.now) × (n ≤ 255) }
-    ensures { Found panel file.now (steps_of panel n (drop at file.now)) result }
+pub fn next_write(file: &[u8], panel: Panel, at: usize, n: usize) -> NextWrite
+    requires { (at ≤ length file.now) × (n ≤ 255) }
+    ensures { Found (panel_code panel) file.now (steps_of (panel_code panel) n (drop at file.now)) result }
 {
     let mut waits: u32 = 0;
     let mut at = at;
-    let mut left = n;
-    while 0 < left {
-        let kind = step_at(file, at, panel);
-        let Kind::Wait(ms) = kind else {
-            return NextWrite { waits, at, left };
-        };
-        waits += ms as u32;
-        at += 3;
-        left -= 1;
+    for i in 0..n {
+        // two arms for the same end: joined, they would no more say in the proof which of them it was
+        let write = Some(Place { at, left: n - i });
+        match step_at(file, at, panel) {
+            Some(Kind::Wait(ms)) => {
+                waits += u32::from(ms);
+                at += 3;
+            }
+            Some(Kind::Write(_)) => return NextWrite { waits, write },
+            None => return NextWrite { waits, write },
+        }
     }
-    NextWrite { waits, at, left }
-}
-
-// The next write from step k of n on; the steps stand from index `at` on.
-pub fn next_write_from(file: &[u8], panel: usize, at: usize, n: usize, k: usize) -> NextWrite
-    requires { (panel < 3) × (at ≤ length file.now) × (n ≤ 255) × (k ≤ n) }
-    ensures { Found panel file.now (drop k (steps_of panel n (drop at file.now))) result }
-{
-    let passed = pass_steps(file, panel, at, k);
-    let end = passed.end;
-    next_write(file, panel, end, n - k)
+    NextWrite { waits, write: None }
 }

@@ -6,7 +6,5 @@ fn main(rt: HostRuntime) -> std::io::Result<()> {
     let mut file = [0u8; 638];
     let n = input::fill(&mut rt.stdin(), &mut file)?;
     let listed = listing::listing_of(&file[..n]);
-    let text = listed.text;
-    let len = listed.len;
-    rt.write_all(&text[..len])
+    rt.write_all(&listed.text[..listed.len])
 }

@@ -10,7 +10,7 @@ use mir.Val.{Fits}
 use lib.ListN.{length, take, drop}
 use Rattle.lists.specs.Lists.{overlay}
 use Rattle.lists.proofs.Parts.{part_length_lem}
-use Rattle.panel.specs.declared.Shape.{Shape}
+use Rattle.panel.specs.Panels.{Sizes}
 use Rattle.picture.specs.Slots.{picture_of, raw_of, slot_bytes, with_bytes}
 use Rattle.picture.specs.Facts.{SlotIn}
 use Rattle.picture.proofs.Slots.{lent_picture, lent_back}
@@ -19,39 +19,22 @@ use Rattle.bitmap_codec.proofs.RoundTrip.{length_read}
 use Rattle.fill_calls.specs.declared.Fed.{Fed}
 use Rattle.slots.specs.Slots.{bitmap_drawn, bitmap_written, on_slot}
 
--- ---- sizes
-
-pub picture_fits : (b h : ℕ) → b ≤ 33 → h ≤ 176 → Fits w64 (h * b)
-picture_fits b h hb hh = omega (arith, mul-le-mul {n₁ = h} {m₁ = b} {n₂ = 176} {m₂ = 33} hh hb)
-
-pub store_fits : (k b h : ℕ) → k ≤ 8 → b ≤ 33 → h ≤ 176 → Fits w64 (k * (h * b))
-store_fits k b h hk hb hh =
-    let l : h * b ≤ 5808 = mul-le-mul {n₁ = h} {m₁ = b} {n₂ = 176} {m₂ = 33} hh hb in
-    omega (arith, mul-le-mul {n₁ = k} {m₁ = h * b} {n₂ = 8} {m₂ = 5808} hk l)
-
-pub end_fits : {k b h start : ℕ} → start ≡ k * (h * b) → k ≤ 7 → b ≤ 33 → h ≤ 176 → Fits w64 (start + h * b)
-end_fits {k} {b} {h} e hk hb hh =
-    let l : h * b ≤ 5808 = mul-le-mul {n₁ = h} {m₁ = b} {n₂ = 176} {m₂ = 33} hh hb in
-    omega (arith, e, mul-le-mul {n₁ = k} {m₁ = h * b} {n₂ = 7} {m₂ = 5808} hk l)
-
 -- ---- the lent part, from where the slot begins to its end
 
-module _ (shape : Shape) (memory : List ℕ) (slot : ℕ) {start : ℕ} (at : start ≡ slot * (shape.rows * shape.bytes)) where
+module _ (shape : Sizes) (memory : List ℕ) (slot : ℕ) {start end : ℕ} (at : start ≡ slot * (shape.rows * shape.bytes))
+    (to : end ≡ start + shape.rows * shape.bytes) where
   abbrev size : ℕ
   size = shape.rows * shape.bytes
 
   abbrev lent : List ℕ
-  lent = take (start + size - start) (drop start memory)
+  lent = take (end - start) (drop start memory)
 
   -- the memory when the part comes back
   abbrev left : (part : List ℕ) → List ℕ
-  left part = take start memory ++ (part ++ drop (start + size - start) (drop start memory))
+  left part = take start memory ++ (part ++ drop (end - start) (drop start memory))
 
-  pub slot-ends : SlotIn shape.bytes shape.rows (length memory) slot → start + size ≤ length memory
+  slot-ends : SlotIn shape.bytes shape.rows (length memory) slot → start + size ≤ length memory
   slot-ends s = rw at s.fits
-
-  pub slot-length : SlotIn shape.bytes shape.rows (length memory) slot → length lent ≡ size
-  slot-length s = rw (add-sub_cancel_left start size) (part_length_lem start size memory (slot-ends s))
 
   -- the bytes that the reader left in it are the slot's picture
   pub slot_read : (file : List ℕ) {part : List ℕ}
@@ -59,7 +42,7 @@ module _ (shape : Shape) (memory : List ℕ) (slot : ℕ) {start : ℕ} (at : st
       → left part ≡ bitmap_drawn shape memory slot file
   slot_read file {part} e =
       let picture = read_picture shape.bytes shape.rows shape.stride file in
-      rw at
+      rw (to, at)
       (lent_back shape.bytes shape.rows memory slot picture part (length_read shape.bytes shape.rows shape.stride file) e)
 
   -- a file that is written of it is the one of the slot's picture
@@ -70,7 +53,7 @@ module _ (shape : Shape) (memory : List ℕ) (slot : ℕ) {start : ℕ} (at : st
   slot_written out e =
       e
       ∙ ap (λ (picture : List ℕ). overlay (written_file shape.bytes shape.rows shape.stride picture) out)
-      (rw at (lent_picture shape.bytes shape.rows memory slot))
+      (rw (to, at) (lent_picture shape.bytes shape.rows memory slot))
 
   -- what is done to it, and leaves as many bytes, is done to the slot
   pub slot_acted : SlotIn shape.bytes shape.rows (length memory) slot → (act : List ℕ → Fed × List ℕ)
@@ -80,11 +63,11 @@ module _ (shape : Shape) (memory : List ℕ) (slot : ℕ) {start : ℕ} (at : st
   unfolding slot_bytes with_bytes
   slot_acted lies act keeps {fed} {part} e =
       let rest : List ℕ = drop start memory in
-      let is : ◌≡◌ {A = Fed × List ℕ} (fed, part) (act (take size rest)) = rw (add-sub_cancel_left start size) at e in
+      let is : ◌≡◌ {A = Fed × List ℕ} (fed, part) (act (take size rest)) = rw (to, add-sub_cancel_left start size) at e in
       let long : length part ≡ size =
       ap (λ (r : Fed × List ℕ). length r.1) is ∙ keeps (take size rest) (part_length_lem start size memory (slot-ends lies)) in
       let cut : ◌≡◌ {A = Fed × List ℕ} (fed, left part) (fed, take start memory ++ (part ++ drop (length part) rest)) =
-      rw (add-sub_cancel_left start size, long) in
+      rw (to, add-sub_cancel_left start size, long) in
       cut
       ∙ ap (λ (r : Fed × List ℕ). (r.0, take start memory ++ (r.1 ++ drop (length r.1) rest))) is
       ∙ rw at

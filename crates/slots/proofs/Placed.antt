@@ -1,4 +1,4 @@
--- What an upload puts into a slot, by its number, and when a chunk wrote one.
+-- What an upload puts into a slot, by its number.
 -- Assumes nothing.
 use mathlib.Core.Path.{◌≡◌, refl, sym, ap, ◌∙◌}
 use mathlib.Core.Bool.{true, false, not}
@@ -11,7 +11,7 @@ use lib.Dec.{eqb}
 use lib.ListN.{length}
 use Rattle.lists.specs.Rules.{Case, first_of}
 use Rattle.lists.proofs.Rules.{and_left, taken, some_number, none_of}
-use Rattle.panel.specs.declared.Shape.{Shape}
+use Rattle.panel.specs.Panels.{Sizes}
 use Rattle.picture.specs.Regions.{region_cases}
 use Rattle.bitmap.specs.Header.{header_length, file_length}
 use Rattle.bitmap.specs.Bitmap.{bitmap_good}
@@ -21,9 +21,7 @@ use Rattle.fill_calls.specs.declared.Fed.{Fed}
 use Rattle.slots.specs.Slots.{region_drawn, bitmap_drawn, chunk_writes}
 use Rattle.slots.specs.Facts.{bitmap_placed, region_placed}
 
--- ---- what an upload puts into a slot
-
-module _ (shape : Shape) (memory : List ℕ) (slot : ℕ) (file : List ℕ) where
+module _ (shape : Sizes) (memory : List ℕ) (slot : ℕ) (file : List ℕ) where
   pub bitmap_4 : bitmap_good shape.bytes shape.rows shape.stride file ≡ false → (4, memory) ≡ bitmap_placed shape memory slot file
   bitmap_4 e = rw e
 
@@ -37,7 +35,7 @@ module _ (shape : Shape) (memory : List ℕ) (slot : ℕ) (file : List ℕ) wher
     pub bitmap_0 : {after : List ℕ} → after ≡ bitmap_drawn shape memory slot file → (0, after) ≡ bitmap_placed shape memory slot file
     bitmap_0 {after} e = ap (λ (l : List ℕ). (0, l)) e ∙ rw good
 
-module _ (shape : Shape) (memory : List ℕ) (slot x y width height : ℕ) (payload : List ℕ) {r : ℕ}
+module _ (shape : Sizes) (memory : List ℕ) (slot x y width height : ℕ) (payload : List ℕ) {r : ℕ}
     (is : r ≡ first_of (region_cases shape.bytes shape.rows x y width height payload) (λ n. n) 0) where
   abbrev own : List Case
   own = region_cases shape.bytes shape.rows x y width height payload
@@ -50,16 +48,3 @@ module _ (shape : Shape) (memory : List ℕ) (slot x y width height : ℕ) (payl
   region_accepted z {after} e =
       ap (λ (l : List ℕ). (0, l)) e
       ∙ sym (taken own (λ n. (n, memory)) (0, region_drawn shape memory slot x y width height payload) (none_of own refl is z))
-
--- ---- whether a chunk wrote the slot
-
-pub rows_none : (s came : ℕ) → came < header_length → 0 ≡ rows_come s came
-rows_none s came l = let e : came - header_length ≡ 0 = omega arith in sym (rw e (zero-div s))
-
-module _ (s : ℕ) (before : Fill) (fed : Fed) where
-  pub chunk_refused : (fed.number ≡ 0 → ⊥) → true ≡ chunk_writes s before fed
-  chunk_refused d = rw (ne_eqb fed.number 0 d)
-
-  pub chunk_rows : fed.number ≡ 0 → {now old : ℕ} → now ≡ rows_come s fed.fill.came → old ≡ rows_come s before.came
-      → not (eqb now old) ≡ chunk_writes s before fed
-  chunk_rows z e f = rw (z, e, f)

@@ -4,7 +4,7 @@
 use Rattle.std.specs.Prelude.{ℕ, ◌+◌, ◌*◌, Bool, not, ◌||◌, List, [], ◌∷◌, eqb, set}
 use Rattle.lists.specs.Lists.{overlay}
 use Rattle.lists.specs.Rules.{Case, case}
-use Rattle.panel.specs.declared.Shape.{Shape}
+use Rattle.panel.specs.Panels.{Sizes}
 use Rattle.picture.specs.Slots.{slot_bytes, with_bytes, slot_picture, with_picture}
 use Rattle.picture.specs.Regions.{with_region}
 use Rattle.bitmap.specs.Bitmap.{bitmap_good}
@@ -16,32 +16,32 @@ use Rattle.summary.specs.Summaries.{summary_of}
 use Rattle.summary.specs.declared.Summary.{Summary}
 
 -- lent memory holds slots 0 to n, P bytes each, exactly
-abbrev pub store_bytes : Shape → (n : ℕ) → ℕ
+abbrev pub store_bytes : Sizes → (n : ℕ) → ℕ
 store_bytes shape n = (n + 1) * (shape.rows * shape.bytes)
 
 -- ---- uploads and the writer
 
 -- a bitmap file that breaks a rule earns 4
-abbrev pub bitmap_cases : (shape : Shape) (file : List ℕ) → List Case
+abbrev pub bitmap_cases : (shape : Sizes) (file : List ℕ) → List Case
 bitmap_cases shape file = case (not (bitmap_good shape.bytes shape.rows shape.stride file)) 4 ∷ []
 
 -- the memory with the dots of a region painted, and with a slot that holds the picture of a bitmap file
-abbrev pub region_drawn : (shape : Shape) (memory : List ℕ) (slot x y width height : ℕ) (payload : List ℕ) → List ℕ
+abbrev pub region_drawn : (shape : Sizes) (memory : List ℕ) (slot x y width height : ℕ) (payload : List ℕ) → List ℕ
 region_drawn shape = with_region shape.bytes shape.rows
 
-abbrev pub bitmap_drawn : (shape : Shape) (memory : List ℕ) (slot : ℕ) (file : List ℕ) → List ℕ
+abbrev pub bitmap_drawn : (shape : Sizes) (memory : List ℕ) (slot : ℕ) (file : List ℕ) → List ℕ
 bitmap_drawn shape memory slot file =
     with_picture shape.bytes shape.rows memory slot (read_picture shape.bytes shape.rows shape.stride file)
 
 -- the output with the bitmap file of a slot's picture at its front
-abbrev pub bitmap_written : (shape : Shape) (memory : List ℕ) (slot : ℕ) (out : List ℕ) → List ℕ
+abbrev pub bitmap_written : (shape : Sizes) (memory : List ℕ) (slot : ℕ) (out : List ℕ) → List ℕ
 bitmap_written shape memory slot =
     overlay (written_file shape.bytes shape.rows shape.stride (slot_picture shape.bytes shape.rows memory slot))
 
 -- ---- fills
 
 -- what is done to the bytes of a slot: what it gives back, and the memory with the bytes that it leaves in the slot
-abbrev pub on_slot : (shape : Shape) (memory : List ℕ) (slot : ℕ) (act : List ℕ → Fed × List ℕ) → Fed × List ℕ
+abbrev pub on_slot : (shape : Sizes) (memory : List ℕ) (slot : ℕ) (act : List ℕ → Fed × List ℕ) → Fed × List ℕ
 on_slot shape memory slot act =
     let r = act (slot_bytes shape.bytes shape.rows memory slot) in
     (r.0, with_bytes shape.bytes shape.rows memory slot r.1)
@@ -57,6 +57,6 @@ finish_writes fed = not (eqb fed.number 0)
 -- ---- summaries
 
 -- the summaries with a fresh count of a slot at its place
-abbrev pub counted_in : (shape : Shape) (memory : List ℕ) (slot : ℕ) → List Summary → List Summary
+abbrev pub counted_in : (shape : Sizes) (memory : List ℕ) (slot : ℕ) → List Summary → List Summary
 counted_in shape memory slot summaries =
     set summaries slot (summary_of shape.bytes shape.rows (slot_picture shape.bytes shape.rows memory slot))

@@ -8,8 +8,7 @@ use lib.IntN.{ℤ}
 use lib.ListN.{length, take}
 use Rattle.finish_order.specs.Order.{Thing, write, delay, busy_high, done, thing_at}
 use Rattle.finish_rules.specs.Rules.{normal_good, fast_good, Accepted}
-use Rattle.finish_panel.specs.Update.{bytes_of, answer_of, answer_value, put_out, normal_things, fast_things, normal_update, fast_update, room_for_all, InOrder}
-use Rattle.finish_panel.specs.declared.Answer.{Answer}
+use Rattle.finish_panel.specs.Update.{Answer, bytes_of, answer_of, answer_value, put_out, normal_things, fast_things, normal_update, fast_update, room_for_all, InOrder}
 use Rattle.finish_panel.proofs.Whole.{normal_in_order, fast_in_order}
 use Rattle.start_board.specs.Words.{as_word, kind_in, value_in}
 use Rattle.start_board.specs.Finish.{finish_kind, finish_word, WordsInOrder}

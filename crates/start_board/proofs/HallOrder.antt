@@ -10,16 +10,13 @@ use native.Mathlib.Omega.{arith}
 use lib.ListN.{length, take, length-drop}
 use Rattle.lists.specs.Lists.{overlay}
 use Rattle.hall_commands.specs.Commands.{data_in}
-use Rattle.hall_commands.specs.Reading.{reader_at, reply, reading}
+use Rattle.hall_commands.specs.Reading.{Reply, reader_at, reply, reading}
 use Rattle.hall_commands.specs.Order.{read_next, read_in_order}
-use Rattle.hall_commands.specs.declared.Reply.{Reply}
 use Rattle.hall_commands.proofs.Reading.{read_accepted}
 use Rattle.hall_commands.proofs.Order.{joined_cong, read_cong, not-refused}
 use Rattle.hall_display.specs.Panels.{is_display, image_bytes, header}
-use Rattle.hall_display.specs.Upload.{put_out, uploading}
+use Rattle.hall_display.specs.Upload.{Answer, Command, put_out, uploading}
 use Rattle.hall_display.specs.Order.{image_commands, Uploaded}
-use Rattle.hall_display.specs.declared.Answer.{Answer}
-use Rattle.hall_display.specs.declared.Answer.TheVariants.{Command}
 use Rattle.hall_display.proofs.Order.{upload_whole}
 use Rattle.start_board.specs.Words.{word, as_word, kind_in, value_in}
 use Rattle.start_board.specs.Hall.{command_word, read_word, command_put, WordsUploaded, pointer_at, slot_at, WordsRead}

@@ -1,61 +1,55 @@
 -- Laws of the hall display's answers: what an answer of the Rattle call says of the C call's.
 -- Assumes nothing.
 use mathlib.Core.Path.{◌≡◌, refl, sym, ap, ◌∙◌}
-use mathlib.Core.Bool.{true, not}
+use mathlib.Core.Bool.{Bool, true, false, not, cond}
 use mathlib.Core.List.{List, [], ◌∷◌}
 use Prim.Native.Nat.{ℕ, ◌+◌, ◌-◌, ◌≤◌, ◌<◌}
 use native.Mathlib.Omega.{arith}
-use borrow.Author.Tests.{not-false, eq-eqb, ne_eqb, lt-ltb, le-ltb}
+use borrow.Author.Tests.{eq-eqb, ne_eqb, lt-ltb, le-ltb}
 use lib.Dec.{ltb}
 use lib.ListN.{length}
 use Rattle.lists.specs.Lists.{overlay, overlay_at}
-use Rattle.lists.specs.Rules.{Case, case, first_of}
-use Rattle.lists.proofs.Rules.{None, past, none_of, first_map, some_append}
-use Rattle.hall_commands.specs.Reading.{reader_at, reading}
-use Rattle.hall_commands.specs.declared.Reply.{Reply}
+use Rattle.lists.specs.Rules.{case, first_of}
+use Rattle.hall_commands.specs.Reading.{Reply, reader_at, reading}
 use Rattle.hall_commands.proofs.Reading.{read_accepted}
 use Rattle.hall_display.specs.Panels.{is_display, header}
-use Rattle.hall_display.specs.Upload.{make_header}
-use Rattle.hall_display.specs.declared.Answer.{Answer}
-use Rattle.hall_display.specs.declared.Header.{Header}
-use Rattle.hall_display.proofs.Panels.{header-length}
-use Rattle.hall_display.proofs.Upload.{made_bytes}
+use Rattle.hall_display.specs.Upload.{Answer, make_header}
+use Rattle.refusal.specs.Numbers.{number_of}
+use Rattle.refusal.specs.declared.Refusal.{Refusal}
+use Rattle.refusal.specs.declared.Refusal.TheVariants as refusals
+use Rattle.std.proofs.Common.{Result, Ok, Err}
 use Rattle.start_board.specs.Words.{word, as_word}
 use Rattle.start_board.specs.Hall.{header_put, command_word, read_word}
 
 -- ---- the header
 
-module _ (panel depth : ℕ) (out : List ℕ) {made : Header} (is : made ≡ make_header panel depth) where
-  abbrev cases : List Case
-  cases = case (not (is_display panel depth)) 24 ∷ []
+module _ (panel depth : ℕ) (out : List ℕ) where
+  pub header_refused : (e : Refusal) → ◌≡◌ {A = Result (List ℕ) Refusal} (Err e) (make_header panel depth)
+      → (number_of e, out) ≡ header_put panel depth out
+  unfolding header_put make_header
+  header_refused e made = of_test (is_display panel depth) made where
+    of_test : (good : Bool) → ◌≡◌ {A = Result (List ℕ) Refusal} (Err e) (cond good (Ok (header panel depth)) (Err refusals.Display))
+        → ◌≡◌ {A = ℕ × List ℕ} (number_of e, out)
+        (first_of (case (not good) 24 ∷ case (ltb (length out) 16) 11 ∷ []) (λ number. (number, out)) (0, overlay (header panel depth) out))
+    of_test true made = absurd (cc)
+    of_test false made = let is : e ≡ refusals.Display = cc in rw is
 
-  number_is : made.number ≡ first_of cases (λ n. n) 0
-  unfolding make_header
-  number_is = ap (λ (h : Header). h.number) is ∙ first_map (λ (h : Header). h.number) cases _ _
-
-  pub header_refused : (made.number ≡ 0 → ⊥) → (made.number, out) ≡ header_put panel depth out
-  unfolding header_put
-  header_refused d = some_append cases (case (ltb (length out) 16) 11 ∷ []) (λ n. (n, out)) (0, overlay (header panel depth) out) number_is d
-
-  module _ (z : made.number ≡ 0) where
-    good : is_display panel depth ≡ true
-    good = told (none_of cases refl number_is z) where
-      told : None cases → is_display panel depth ≡ true
-      told (past e rest) = not-false (is_display panel depth) e
-
-    bytes_are : made.bytes ≡ header panel depth
-    bytes_are = ap (λ (h : Header). h.bytes) is ∙ made_bytes panel depth good
+  module _ (bytes : List ℕ) (made : ◌≡◌ {A = Result (List ℕ) Refusal} (Ok bytes) (make_header panel depth)) where
+    given : (is_display panel depth ≡ true) × (bytes ≡ header panel depth)
+    unfolding make_header
+    given = of_test (is_display panel depth) made where
+      of_test : (good : Bool) → ◌≡◌ {A = Result (List ℕ) Refusal} (Ok bytes) (cond good (Ok (header panel depth)) (Err refusals.Display))
+          → (good ≡ true) × (bytes ≡ header panel depth)
+      of_test true made = (refl, cc)
+      of_test false made = absurd (cc)
 
     pub header_short : length out < 16 → (11, out) ≡ header_put panel depth out
     unfolding header_put
-    header_short h = rw (good, lt-ltb (length out) 16 h)
+    header_short h = rw (given.0, lt-ltb (length out) 16 h)
 
-    pub header-fits : 16 ≤ length out → 0 + length made.bytes ≤ length out
-    header-fits h = let l : length made.bytes ≡ 16 = rw bytes_are (header-length panel depth) in omega arith
-
-    pub header_given : {after : List ℕ} → 16 ≤ length out → after ≡ overlay_at 0 made.bytes out → (0, after) ≡ header_put panel depth out
+    pub header_given : {after : List ℕ} → 16 ≤ length out → after ≡ overlay_at 0 bytes out → (0, after) ≡ header_put panel depth out
     unfolding header_put
-    header_given h e = rw (good, le-ltb (length out) 16 h, e, bytes_are)
+    header_given h e = rw (given.0, le-ltb (length out) 16 h, e, given.1)
 
 -- ---- a command
 

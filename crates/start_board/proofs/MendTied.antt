@@ -9,9 +9,8 @@ use Rattle.lists.specs.Lists.{overlay}
 use Rattle.lists.proofs.Calls.{Call, AsksNothing}
 use Rattle.panel.specs.Panels.{rows_of, row_bytes_of, stride_of}
 use Rattle.mend.specs.Mending.{ZeroPadding}
-use Rattle.mend.specs.Answers.{mending}
+use Rattle.mend.specs.Answers.{Told, mending}
 use Rattle.mend.specs.Promises.{full_length, nothing_done, Promised}
-use Rattle.mend.specs.declared.Mended.{Mended}
 use Rattle.mend.proofs.Theorems.{answer-small, good_file, promised_of}
 use Rattle.start_board.specs.Mending.{mended_number, as_number, answer_in}
 use Rattle.start_board.proofs.MendNumber.{answer_back}
@@ -46,13 +45,13 @@ module _ (c : MendCall) where
   mended_of = take (full_length panel_of) out_after
 
   -- what the macros take from the answer, and the outputs, are those of mending
-  kept : ◌≡◌ {A = Mended × List ℕ × List ℕ} (answer_in c.result, out_after, list_after) (mending panel_of file_of out_of list_of)
+  kept : ◌≡◌ {A = Told × List ℕ × List ℕ} (answer_in c.result, out_after, list_after) (mending panel_of file_of out_of list_of)
   kept =
-      let called : Mended × List ℕ × List ℕ = mending panel_of file_of out_of list_of in
+      let called : Told × List ℕ × List ℕ = mending panel_of file_of out_of list_of in
       let small = answer-small panel_of file_of out_of list_of in
       let same : answer_in (mended_number called.0) ≡ called.0 = answer_back called.0 small.0 small.1 small.2 in
       let promise : ◌≡◌ {A = ℕ × List ℕ × List ℕ} (c.result, out_after, list_after) (as_number called) = c.promised in
-      ap (λ (p : ℕ × List ℕ × List ℕ). (answer_in p.0, p.1, p.2)) promise ∙ ap (λ (a : Mended). (a, called.1, called.2)) same
+      ap (λ (p : ℕ × List ℕ × List ℕ). (answer_in p.0, p.1, p.2)) promise ∙ ap (λ (a : Told). (a, called.1, called.2)) same
 
   -- a call that answers number 0
   pub mend_tied : (answer_in c.result).number ≡ 0 → Promised panel_of file_of (answer_in c.result) mended_of list_after
@@ -66,7 +65,7 @@ module _ (c : MendCall) where
 -- what a call leaves that has nothing to mend
 abbrev pub LeavesAll : MendCall → Type 0
 LeavesAll c =
-    ◌≡◌ {A = Mended × List ℕ × List ℕ} (answer_in c.result, out_after c, list_after c) (nothing_done, overlay (file_of c) (out_of c), list_of c)
+    ◌≡◌ {A = Told × List ℕ × List ℕ} (answer_in c.result, out_after c, list_after c) (nothing_done, overlay (file_of c) (out_of c), list_of c)
 
 -- a second call, on the file that the first put out
 pub twice_tied : (c d : MendCall) → (answer_in c.result).number ≡ 0 → panel_of d ≡ panel_of c → file_of d ≡ mended_of c

@@ -5,12 +5,10 @@ use Rattle.lists.specs.Lists.{overlay}
 use Rattle.lists.specs.Rules.{case, first_of}
 use Rattle.hall_commands.specs.Commands.{data_in}
 use Rattle.hall_commands.specs.Order.{joined}
-use Rattle.hall_commands.specs.declared.Reply.{Reply}
+use Rattle.hall_commands.specs.Reading.{Reply}
 use Rattle.hall_display.specs.Panels.{is_display, header}
-use Rattle.hall_display.specs.Upload.{answer_value}
+use Rattle.hall_display.specs.Upload.{Answer, Refused, Command, NoMore, answer_value}
 use Rattle.hall_display.specs.Order.{image_commands}
-use Rattle.hall_display.specs.declared.Answer.{Answer}
-use Rattle.hall_display.specs.declared.Answer.TheVariants.{Refused, Command, NoMore}
 use Rattle.start_board.specs.Words.{word, kind_in, value_in}
 
 -- ---- the answers

@@ -1,26 +1,27 @@
 // The finish panels' calls: the answer of the function of `finish_panel` as a word.
 ghost use Rattle.std.specs.Prelude.{◌≡◌};
-ghost use Rattle.finish_panel.specs.Update.{normal_update, fast_update};
+ghost use Rattle.finish_panel.specs.Update.{answer_given, normal_update, fast_update};
 ghost use Rattle.start_board.specs.Words.{as_word};
 ghost use Rattle.start_board.specs.Finish.{finish_word};
 
 use crate::words;
-use finish_panel::Answer;
+use finish_panel::Given;
+use refusal::Refusal;
 
 // An answer as a word.
-fn finish_word(answer: Answer) -> u32
-    ensures { result ≡ finish_word answer }
+fn finish_word(answer: Result<Given, Refusal>) -> u32
+    ensures { result ≡ finish_word (answer_given answer) }
 {
     match answer {
-        Answer::Refused(number) => words::make_word(0, number as u32),
-        Answer::Write(n) => words::make_word(1, n as u32),
-        Answer::Delay(ms) => words::make_word(2, ms as u32),
-        Answer::BusyHigh => words::make_word(3, 0),
-        Answer::Done => words::make_word(4, 0),
+        Err(refusal) => words::make_word(0, u32::from(refusal.number())),
+        Ok(Given::Write(n)) => words::make_word(1, u32::from(n)),
+        Ok(Given::Delay(ms)) => words::make_word(2, u32::from(ms)),
+        Ok(Given::BusyHigh) => words::make_word(3, 0),
+        Ok(Given::Done) => words::make_word(4, 0),
     }
 }
 
-// Normal mode: the thing that comes after `given` others.
+// Normal mode: the thing that comes after `given` others. Two exports, one a mode, as the C interface has them.
 #[unsafe(no_mangle)]
 pub extern "C" fn epd_normal_update(
     otp: &[u8],

@@ -2,40 +2,43 @@
 ghost use Rattle.std.specs.Prelude.{◌≡◌};
 ghost use Rattle.hall_checksum.specs.Checksum.{checksum_from};
 ghost use Rattle.hall_commands.specs.Reading.{reader_at, reading};
-ghost use Rattle.hall_display.specs.Upload.{uploading};
+ghost use Rattle.hall_display.specs.Upload.{answer_of, uploading};
+ghost use Rattle.refusal.specs.Numbers.{number_given};
 ghost use Rattle.start_board.specs.Words.{as_word};
 ghost use Rattle.start_board.specs.Hall.{header_put, command_word, read_word};
 
 use crate::words;
 use hall_commands::Reader;
-use hall_display::Answer;
+use refusal::Refusal;
+
+// Puts the header of a panel's image at the front of `out`.
+fn put_header(panel: u32, depth: u32, out: &mut [u8]) -> Result<(), Refusal>
+    ensures { (number_given result, out.new) ≡ header_put panel depth out.old }
+{
+    let header = hall_display::make_header(panel, depth)?;
+    if out.len() < 16 {
+        return Err(Refusal::Output);
+    }
+    lists::put_at(out, 0, &header);
+    Ok(())
+}
 
 // The header of a panel's image: 0; or 24, no such panel or depth; or 11, the output too short.
 #[unsafe(no_mangle)]
 pub extern "C" fn epd_hall_header(panel: u32, depth: u32, out: &mut [u8]) -> u8
     ensures { (result, out.new) ≡ header_put panel depth out.old }
 {
-    let header = hall_display::make_header(panel, depth);
-    let number = header.number;
-    if number != 0 {
-        return number;
-    }
-    if out.len() < 16 {
-        return 11;
-    }
-    let bytes = header.bytes;
-    lists::put_at(out, 0, &bytes);
-    0
+    refusal::number_given(put_header(panel, depth, out))
 }
 
 // An answer as a word.
-fn command_word(answer: Answer) -> u32
-    ensures { result ≡ command_word answer }
+fn command_word(answer: Result<Option<u8>, Refusal>) -> u32
+    ensures { result ≡ command_word (answer_of answer) }
 {
     match answer {
-        Answer::Refused(number) => words::make_word(0, number as u32),
-        Answer::Command(n) => words::make_word(1, n as u32),
-        Answer::NoMore => words::make_word(2, 0),
+        Err(refusal) => words::make_word(0, u32::from(refusal.number())),
+        Ok(Some(n)) => words::make_word(1, u32::from(n)),
+        Ok(None) => words::make_word(2, 0),
     }
 }
 
@@ -61,14 +64,11 @@ pub extern "C" fn epd_hall_read(slot: u32, at: usize, command: &[u8], memory: &m
     ensures { (result, memory.new)
         ≡ as_word (read_word «at») (reading (reader_at slot «at») command.now memory.old) }
 {
-    let reader = Reader { slot, at };
-    let reply = reader.read(command, memory);
-    let number = reply.number;
-    if number != 0 {
-        return words::make_word(0, number as u32);
+    let mut reader = Reader { slot, at };
+    match reader.read(command, memory) {
+        Err(refusal) => words::make_word(0, u32::from(refusal.number())),
+        Ok(()) => words::make_word(1, (reader.at - at) as u32),
     }
-    let next = reply.reader;
-    words::make_word(1, (next.at - at) as u32)
 }
 
 // The checksum of some bytes, from a start value on, by the table.

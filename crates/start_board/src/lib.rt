@@ -1,4 +1,5 @@
-// The calls for firmware in C: include/start_board.h declares them. Each promises what the function that it calls does.
+// The calls for firmware in C: include/start_board.h declares them. Each promises what the function that it calls does. Panels, kinds and
+// refusals are numbers here, since C calls with them.
 #![tactic(auto)]
 
 ghost use Rattle.std.specs.Prelude.{◌≡◌};
@@ -22,7 +23,7 @@ pub extern "C" fn epd_build_line(
 ) -> u8
     ensures { (result, out.new) ≡ build_line panel stage row dots.now out.old }
 {
-    wire::build_line(panel, stage, row, dots, out)
+    refusal::number_given(wire::build_line(panel, stage, row, dots, out))
 }
 
 // The settings check: 0, or 2 where the file breaks a rule.
@@ -30,7 +31,7 @@ pub extern "C" fn epd_build_line(
 pub extern "C" fn epd_check_settings(file: &[u8]) -> u8
     ensures { result ≡ check_settings file.now }
 {
-    settings::check_settings(file)
+    refusal::number_given(settings::check_settings(file))
 }
 
 // The bitmap check: 0; or 14, no such panel; or 4, the file breaks a rule.
@@ -38,5 +39,5 @@ pub extern "C" fn epd_check_settings(file: &[u8]) -> u8
 pub extern "C" fn epd_check_bitmap(panel: u32, file: &[u8]) -> u8
     ensures { result ≡ check_bitmap panel file.now }
 {
-    bitmap::check_bitmap(panel, file)
+    refusal::number_given(bitmap::check_bitmap(panel, file))
 }

@@ -7,5 +7,5 @@ pub fn make_word(kind: u8, value: u32) -> u32
     requires { value < 2 ^ 24 }
     ensures { result ≡ word kind value }
 {
-    kind as u32 * 0x0100_0000 + value
+    u32::from(kind) * 0x0100_0000 + value
 }

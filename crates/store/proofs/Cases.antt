@@ -1,23 +1,24 @@
 -- What each call has tested where it refuses nothing, by name: only this file knows in which order a call's own cases stand.
 -- Assumes nothing.
-use mathlib.Core.Path.{◌≡◌, ap, ◌∙◌}
+use mathlib.Core.Path.{◌≡◌, ap}
 use mathlib.Core.Bool.{Bool, true, false, not}
 use mathlib.Core.List.{List, [], ◌∷◌, ◌++◌}
-use Prim.Native.Nat.{ℕ, ◌≤◌, ◌<◌}
-use borrow.Author.Tests.{leb-true, ltb-false, le-leb, lt-leb, le-ltb, eq-eqb, ne_eqb, not-false}
+use Prim.Native.Nat.{ℕ, ◌≤◌}
+use borrow.Author.Tests.{leb-true, ltb-false, le-leb, le-ltb, not-false}
 use lib.Dec.{leb}
+use Rattle.std.specs.Prelude.{Ok, Err}
+use Rattle.refusal.specs.Numbers.{number_of}
+use Rattle.refusal.specs.declared.Refusal.{Refusal}
 use Rattle.lists.specs.Rules.{Case, case, first_of}
-use Rattle.lists.proofs.Rules.{numbered, and_left, and_right, some_append, None, none, past, none_parts}
-use Rattle.panel.specs.declared.Shape.{Shape}
-use Rattle.settings.specs.Settings.{settings_good, shape_in}
+use Rattle.lists.proofs.Rules.{numbered, and_left, and_right, None, none, past, none_parts}
+use Rattle.panel.specs.Panels.{Sizes}
+use Rattle.settings.specs.declared.Plan.{Plan}
 use Rattle.bitmap.specs.Header.{file_length}
-use Rattle.slots.specs.Slots.{store_bytes}
 use Rattle.store.specs.Conditions.{is_runs_slot}
-use Rattle.store.specs.Refusals.{takes_pictures, is_running, is_abandoned, is_filled, is_filling, open_cases, upload_own, begin_own, fill_own, start_own, abandon_own, write_own}
-use Rattle.store.specs.Facts.{number_after, Found}
+use Rattle.store.specs.Refusals.{takes_pictures, is_running, is_abandoned, is_filled, is_filling, upload_own, begin_own, fill_own, start_own, abandon_own, write_own}
+use Rattle.store.specs.Facts.{Found}
 use Rattle.store.specs.declared.Store.{Store}
-use Rattle.store.specs.declared.checks.Checked.{Checked}
-use Rattle.store.proofs.Numbers.{after_cases, none_before}
+use Rattle.store.proofs.Numbers.{by_first, by_own}
 
 -- ---- a call's own cases
 
@@ -80,53 +81,28 @@ startable store slot (past e (past f (past g (past k rest)))) =
 pub running : (store : Store) → None (abandon_own store) → is_running store.phase ≡ true
 running store (past e rest) = not-false (is_running store.phase) e
 
-pub record Writable (store : Store) (shape : Shape) (slot out_length : ℕ) : Type 0 where
+pub record Writable (store : Store) (shape : Sizes) (slot out_length : ℕ) : Type 0 where
   pub high : slot ≤ store.slots
   pub room : file_length shape.rows shape.stride ≤ out_length
 
-pub writable : (store : Store) (shape : Shape) (slot out_length : ℕ) → None (write_own store shape slot out_length) → Writable store shape slot out_length
+pub writable : (store : Store) (shape : Sizes) (slot out_length : ℕ) → None (write_own store shape slot out_length) → Writable store shape slot out_length
 writable store shape slot out_length (past e (past f rest)) = record { high = ltb-false _ _ e; room = ltb-false _ _ f }
 
-pub write_free : (store : Store) (shape : Shape) (slot out_length : ℕ) → Writable store shape slot out_length → None (write_own store shape slot out_length)
+pub write_free : (store : Store) (shape : Sizes) (slot out_length : ℕ) → Writable store shape slot out_length → None (write_own store shape slot out_length)
 write_free store shape slot out_length may = past (le-ltb _ _ may.high) (past (le-ltb _ _ may.room) none)
 
--- ---- the numbers that the functions found
+-- ---- what the functions found
 
-module _ (file : List ℕ) (cases own : List Case) {checked : Checked} (found : Found file cases checked) where
-  -- the store's number stands
-  pub first_found : (checked.number ≡ 0 → ⊥) → Found file (cases ++ own) (record { number = checked.number; plan = checked.plan })
-  first_found d =
-      record { number_is = some_append cases own (λ n. n) 0 found.number_is d; plan = λ z. absurd (d z) }
+module _ (file : List ℕ) (cases own : List Case) where
+  -- the store's refusal stands
+  pub first_found : (r : Refusal) → Found file cases (Err r) → Found file (cases ++ own) (Err r)
+  first_found r found = record { number_is = by_first cases own r found.number_is; plan = tt }
 
-  -- its own after it
-  pub more_found : numbered cases ≡ true → {r : ℕ} → r ≡ number_after checked.number own
-      → Found file (cases ++ own) (record { number = r; plan = checked.plan })
-  more_found p e =
-      record {
-        number_is = after_cases cases own p found.number_is e;
-        plan = λ z. found.plan (none_before own e z);
-      }
+  -- where there is none, its own after it, or the plan
+  pub own_found : numbered cases ≡ true → (plan : Plan) → Found file cases (Ok plan) → (r : Refusal) → number_of r ≡ first_of own (λ n. n) 0
+      → Found file (cases ++ own) (Err r)
+  own_found p plan found r is = record { number_is = by_own cases own p found.number_is is; plan = tt }
 
--- ---- the number of an opening
-
-module _ (file : List ℕ) (n m : ℕ) where
-  pub open_2 : settings_good file ≡ false → 2 ≡ first_of (open_cases file n m) (λ n. n) 0
-  open_2 e = rw e
-
-  module _ (good : settings_good file ≡ true) where
-    pub open_low : n < 1 → 1 ≡ first_of (open_cases file n m) (λ n. n) 0
-    open_low l = rw (good, lt-leb 1 n l)
-
-    pub open_high : 1 ≤ n → 7 < n → 1 ≡ first_of (open_cases file n m) (λ n. n) 0
-    open_high l h = rw (good, le-leb 1 n l, lt-leb n 7 h)
-
-    -- k is the length that a store of slots 0 to n has
-    module _ (l : 1 ≤ n) (h : n ≤ 7) {shape : Shape} (sizes : shape ≡ shape_in file) {k : ℕ} (bytes : k ≡ store_bytes shape n) where
-      is : k ≡ store_bytes (shape_in file) n
-      is = bytes ∙ ap (λ (z : Shape). store_bytes z n) sizes
-
-      pub open_room : (m ≡ k → ⊥) → 1 ≡ first_of (open_cases file n m) (λ n. n) 0
-      open_room d = rw (good, le-leb 1 n l, le-leb n 7 h, ← is, ne_eqb m k d)
-
-      pub open_0 : m ≡ k → 0 ≡ first_of (open_cases file n m) (λ n. n) 0
-      open_0 e = rw (good, le-leb 1 n l, le-leb n 7 h, ← is, eq-eqb m k e)
+  pub none_found : numbered cases ≡ true → (plan : Plan) → Found file cases (Ok plan) → 0 ≡ first_of own (λ n. n) 0
+      → Found file (cases ++ own) (Ok plan)
+  none_found p plan found is = record { number_is = by_own cases own p found.number_is is; plan = found.plan }

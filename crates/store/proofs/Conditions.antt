@@ -1,22 +1,23 @@
--- What a valid state keeps, one condition by one, and how the functions find it. Only this file knows in which order the conditions stand.
+-- What a valid state keeps, one condition by one, and how `plan_state` finds it. Only this file knows in which order the conditions stand.
 -- Assumes nothing.
-use mathlib.Core.Path.{◌≡◌, sym, ap, ◌∙◌}
-use mathlib.Core.Bool.{Bool, true, false, not, and-true, false≢true}
-use mathlib.Core.List.{List, [], ◌∷◌}
-use Prim.Native.Nat.{ℕ, ◌≤◌, ◌<◌}
+use mathlib.Core.Path.{◌≡◌, refl, sym, ap, subst, ◌∙◌}
+use mathlib.Core.Bool.{Bool, true, false, not}
+use mathlib.Core.Logic.{◌⊎◌, inl, inr}
+use mathlib.Core.List.{List}
+use Prim.Native.Nat.{ℕ, ◌-◌, ◌≤◌, ◌<◌}
 use native.Mathlib.Omega.{arith}
-use borrow.Author.Tests.{leb-true, le-leb, lt-leb, eq-eqb, ne_eqb, not-false, not-true}
-use lib.ListN.{length, get_or}
+use borrow.Author.Tests.{leb-true, le-leb, lt-leb, not-true}
+use lib.ListN.{length, get_or, take}
 use lib.Seq.{length-take-le}
-use Rattle.lists.specs.Rules.{every, first_of}
-use Rattle.lists.proofs.Rules.{refused, passed, broken, holds, none, keep, all_kept, every_append}
-use Rattle.panel.specs.declared.Shape.{Shape}
+use Rattle.std.specs.Prelude.{Some, None, slice_range}
+use Rattle.std.specs.Bool.{then_some}
+use Rattle.lists.specs.Rules.{every}
+use Rattle.lists.proofs.Rules.{broken, holds, none, keep, all_kept}
 use Rattle.settings.specs.Settings.{settings_good, shape_in}
 use Rattle.settings.specs.Plans.{PlanOf}
 use Rattle.settings.specs.Kept.{file_in}
-use Rattle.settings.specs.declared.Settings.{Settings}
 use Rattle.settings.specs.declared.Plan.{Plan}
-use Rattle.settings.specs.declared.Planned.{Planned}
+use Rattle.settings.specs.declared.Settings.{Settings}
 use Rattle.fill.specs.Conditions.{fill_valid}
 use Rattle.fill.specs.declared.Fill.{Fill}
 use Rattle.summary.specs.Conditions.{summaries_good}
@@ -25,10 +26,9 @@ use Rattle.run.specs.Conditions.{run_valid}
 use Rattle.run.specs.declared.Run.{Run}
 use Rattle.run.specs.declared.Phase.{Phase}
 use Rattle.run.specs.declared.Phase.TheVariants.{Running}
-use Rattle.slots.specs.Slots.{store_bytes}
 use Rattle.store.specs.Store.{set_phase, set_fill, set_summaries}
-use Rattle.store.specs.Conditions.{phase_valid, is_runs_slot, fill_rules, slot_rules, state_rules, keeps_rules, rules_cases, memory_cases}
-use Rattle.store.specs.Facts.{StatePlanned, Found}
+use Rattle.store.specs.Conditions.{phase_valid, is_runs_slot, store_rules, state_rules, keeps_rules}
+use Rattle.store.specs.Facts.{StatePlanned}
 use Rattle.store.specs.declared.Store.{Store}
 
 -- ---- the conditions
@@ -140,98 +140,40 @@ module _ {settings : Settings} {store : Store} where
 
 -- ---- how `plan_state` finds them, in order
 
-module _ (settings : Settings) (store : Store) {r : Planned} (unplanned : r.ok ≡ false) where
-  breaks : (k : ℕ) → get_or (state_rules settings store) k true ≡ false → StatePlanned settings store r
+module _ (settings : Settings) (store : Store) where
+  breaks : (k : ℕ) → get_or (state_rules settings store) k true ≡ false → StatePlanned settings store None
   unfolding keeps_rules
-  breaks k e =
-      record { good = unplanned ∙ sym (broken k (state_rules settings store) e); plan = λ t. absurd (false≢true (sym unplanned ∙ t)) }
+  breaks k e = record { good = sym (broken k (state_rules settings store) e); plan = tt }
 
-  pub not_within : length settings.file < settings.len → StatePlanned settings store r
-  not_within h = breaks 0 (lt-leb _ _ h)
+  -- the file is not whole
+  pub cut_short : (settings.len < 0) ⊎ (length settings.file < settings.len) → StatePlanned settings store None
+  cut_short (inl h) = absurd (omega arith)
+  cut_short (inr h) = breaks 0 (lt-leb _ _ h)
 
-  pub not_good : settings_good (file_in settings) ≡ false → StatePlanned settings store r
-  not_good e = breaks 1 e
+  -- kept is the file
+  module _ {kept : List ℕ} (front : kept ≡ slice_range settings.file 0 settings.len) where
+    is : kept ≡ file_in settings
+    is = let e : settings.len - 0 ≡ settings.len = omega arith in front ∙ ap (λ (n : ℕ). take n settings.file) e
 
-  pub no_slots : store.slots < 1 → StatePlanned settings store r
-  no_slots h = breaks 2 (lt-leb _ _ h)
+    pub not_accepted : false ≡ settings_good kept → StatePlanned settings store None
+    not_accepted e = breaks 1 (sym (e ∙ ap settings_good is))
 
-  pub many_slots : 7 < store.slots → StatePlanned settings store r
-  many_slots h = breaks 3 (lt-leb _ _ h)
+    module _ (within : settings.len ≤ length settings.file) (plan : Plan) (of : PlanOf kept plan) {good : Bool}
+        (e : good ≡ every (store_rules kept store)) where
+      decides : good ≡ keeps_rules settings store
+      unfolding keeps_rules
+      decides =
+          let accepted : settings_good (file_in settings) ≡ true = ap settings_good (sym is) ∙ of.good in
+          e ∙ ap (λ (f : List ℕ). every (store_rules f store)) is ∙ sym (rw (le-leb _ _ within, accepted))
 
-  pub not_phase : phase_valid (file_in settings) store.slots store.phase ≡ false → StatePlanned settings store r
-  not_phase e = breaks 4 e
+      planned : good ≡ true → StatePlanned settings store (Some plan)
+      planned g = record { good = sym g ∙ decides; plan = subst (λ (f : List ℕ). PlanOf f plan) is of }
 
-pub slots_decide : (settings : Settings) (store : Store) → settings.len ≤ length settings.file → 1 ≤ store.slots
-    → store.slots ≤ 7 → {ok : Bool} {plan : Plan} → PlanOf (file_in settings) plan
-    → phase_valid (file_in settings) store.slots store.phase ≡ true
-    → ok ≡ every (slot_rules plan.shape store) → StatePlanned settings store (record { ok = ok; plan = plan })
-unfolding keeps_rules
-slots_decide settings store e g h of phase is =
-    record {
-      good = is
-          ∙ ap (λ (shape : Shape). every (slot_rules shape store)) of.shape_is
-          ∙ sym (rw (le-leb _ _ e, of.good, le-leb _ _ g, le-leb _ _ h, phase));
-      plan = λ _. of;
-    }
+      not_planned : good ≡ false → StatePlanned settings store None
+      not_planned g = record { good = sym g ∙ decides; plan = tt }
 
--- how `fill_valid` finds them
-module _ (shape : Shape) (store : Store) where
-  pub fill_absent : store.slots < store.fill.slot → false ≡ every (fill_rules shape store)
-  fill_absent h = rw (lt-leb _ _ h)
-
-  module _ (high : store.fill.slot ≤ store.slots) where
-    pub fill_runs : {t : Bool} → t ≡ is_runs_slot store.phase store.fill.slot → t ≡ true → false ≡ every (fill_rules shape store)
-    fill_runs is e = rw (le-leb _ _ high, ← is, e)
-
-    pub fill_last : {t : Bool} → t ≡ is_runs_slot store.phase store.fill.slot → t ≡ false → {r : Bool}
-        → r ≡ fill_valid shape.bytes shape.rows shape.stride store.fill → r ≡ every (fill_rules shape store)
-    fill_last is e {r} f = rw (le-leb _ _ high, ← is, e, ← f) (sym (and-true r))
-
--- how `slots_valid` finds them
-module _ (shape : Shape) (store : Store) {t : Bool} (is : t ≡ every (fill_rules shape store)) where
-  abbrev counts_good : Bool
-  counts_good = summaries_good shape.bytes shape.rows store.slots store.summaries
-
-  pub fill_fails : not t ≡ true → false ≡ every (slot_rules shape store)
-  fill_fails e = sym (every_append (fill_rules shape store) (counts_good ∷ []) ∙ rw (refused is e))
-
-  pub summaries_last : not t ≡ false → {r : Bool} → r ≡ counts_good → r ≡ every (slot_rules shape store)
-  summaries_last e f = f ∙ sym (every_append (fill_rules shape store) (counts_good ∷ []) ∙ rw (passed is e, and-true))
-
--- ---- how `check_state` and `check_store` find 13 and 1
-
--- how `check_state` finds 13
-module _ (settings : Settings) (store : Store) {planned : Planned} (is : StatePlanned settings store planned) where
-  pub state_13 : not planned.ok ≡ true → 13 ≡ first_of (rules_cases settings store) (λ n. n) 0
-  state_13 e = rw (refused is.good e)
-
-  pub state_0 : not planned.ok ≡ false → 0 ≡ first_of (rules_cases settings store) (λ n. n) 0
-  state_0 e = rw (passed is.good e)
-
--- how `check_store` finds them
-module _ (settings : Settings) (store : Store) (memory_length : ℕ) {planned : Planned} (is : StatePlanned settings store planned) where
-  pub store_13 : not planned.ok ≡ true → Found (file_in settings) (memory_cases settings store memory_length) (record { number = 13; plan = planned.plan })
-  store_13 e = record { number_is = rw (refused is.good e); plan = λ z. absurd (omega (arith, z)) }
-
-  module _ (e : not planned.ok ≡ false) where
-    pub its_plan : PlanOf (file_in settings) planned.plan
-    its_plan = is.plan (not-false planned.ok e)
-
-    pub its_few : store.slots ≤ 7
-    its_few = (valid-state (passed is.good e)).few
-
-    -- k is the length that the store has
-    module _ {k : ℕ} (bytes : k ≡ store_bytes planned.plan.shape store.slots) where
-      length-is : k ≡ store_bytes (shape_in (file_in settings)) store.slots
-      length-is = bytes ∙ ap (λ (shape : Shape). store_bytes shape store.slots) its_plan.shape_is
-
-      pub store_1 : (memory_length ≡ k → ⊥) → Found (file_in settings) (memory_cases settings store memory_length) (record { number = 1; plan = planned.plan })
-      store_1 d =
-          record {
-            number_is = rw (passed is.good e, ← length-is, ne_eqb memory_length k d);
-            plan = λ z. absurd (omega (arith, z));
-          }
-
-      pub store_0 : memory_length ≡ k → Found (file_in settings) (memory_cases settings store memory_length) (record { number = 0; plan = planned.plan })
-      store_0 d =
-          record { number_is = rw (passed is.good e, ← length-is, eq-eqb memory_length k d); plan = λ _. its_plan }
+    -- the test of the store decides
+    pub tested : settings.len ≤ length settings.file → (plan : Plan) → PlanOf kept plan → (good : Bool)
+        → good ≡ every (store_rules kept store) → StatePlanned settings store (then_some good plan)
+    tested within plan of true e = planned within plan of e refl
+    tested within plan of false e = not_planned within plan of e refl

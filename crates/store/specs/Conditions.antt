@@ -2,7 +2,7 @@
 -- Assumes nothing.
 use Rattle.std.specs.Prelude.{ℕ, Bool, true, false, not, List, [], ◌∷◌, ◌++◌, eqb, leb, length}
 use Rattle.lists.specs.Rules.{every, Case, case}
-use Rattle.panel.specs.declared.Shape.{Shape}
+use Rattle.panel.specs.Panels.{Sizes}
 use Rattle.settings.specs.Settings.{settings_good, shape_in}
 use Rattle.settings.specs.Kept.{file_in}
 use Rattle.settings.specs.declared.Settings.{Settings}
@@ -27,7 +27,7 @@ is_runs_slot Abandoned slot = false
 is_runs_slot (Running run) slot = eqb run.slot slot
 
 -- the slot being filled, 0 where there is none, is one of the store's and not that of the run; and the fill is valid
-abbrev pub fill_rules : (shape : Shape) → Store → List Bool
+abbrev pub fill_rules : (shape : Sizes) → Store → List Bool
 fill_rules shape store =
     leb store.fill.slot store.slots
     ∷ not (is_runs_slot store.phase store.fill.slot)
@@ -35,7 +35,7 @@ fill_rules shape store =
     ∷ []
 
 -- what is kept of the slots: the fill keeps its rules, and so do the summaries of slots 0 to n
-abbrev pub slot_rules : (shape : Shape) → Store → List Bool
+abbrev pub slot_rules : (shape : Sizes) → Store → List Bool
 slot_rules shape store =
     fill_rules shape store ++ (summaries_good shape.bytes shape.rows store.slots store.summaries ∷ [])
 

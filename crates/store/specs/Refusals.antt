@@ -3,7 +3,7 @@
 -- Assumes nothing.
 use Rattle.std.specs.Prelude.{ℕ, Bool, true, false, not, ◌&&◌, List, [], ◌∷◌, ◌++◌, eqb, leb, ltb}
 use Rattle.lists.specs.Rules.{Case, case}
-use Rattle.panel.specs.declared.Shape.{Shape}
+use Rattle.panel.specs.Panels.{Sizes}
 use Rattle.settings.specs.Settings.{settings_good, shape_in}
 use Rattle.bitmap.specs.Header.{file_length}
 use Rattle.fill.specs.declared.Fill.{Fill}
@@ -71,7 +71,7 @@ abbrev pub abandon_own : (store : Store) → List Case
 abandon_own store = case (not (is_running store.phase)) 9 ∷ []
 
 -- the writer: 3, 11
-abbrev pub write_own : (store : Store) (shape : Shape) (slot out_length : ℕ) → List Case
+abbrev pub write_own : (store : Store) (shape : Sizes) (slot out_length : ℕ) → List Case
 write_own store shape slot out_length =
     case (ltb store.slots slot) 3 ∷ case (ltb out_length (file_length shape.rows shape.stride)) 11 ∷ []
 

@@ -1,7 +1,7 @@
-// The tests that every call on the store begins with: 13 and 1.
+// The tests that every call on the store begins with: `Refusal::State` and `Refusal::Memory`.
 ghost use Rattle.std.specs.Prelude.{◌≡◌, ◌≤◌};
-ghost use Rattle.panel.specs.Facts.{Sized};
-ghost use Rattle.settings.specs.Plans.{PlanOf};
+ghost use Rattle.refusal.specs.Numbers.{number_given};
+ghost use Rattle.panel.specs.Facts.{sizes};
 ghost use Rattle.lists.specs.Rules.{every, first_of};
 ghost use Rattle.settings.specs.Kept.{file_in};
 ghost use Rattle.store.specs.Conditions.{
@@ -9,33 +9,25 @@ ghost use Rattle.store.specs.Conditions.{
   is_runs_slot,
   fill_rules,
   slot_rules,
+  store_rules,
   rules_cases,
   memory_cases,
 };
-ghost use Rattle.store.specs.Facts.{settings_of, StatePlanned, Found};
+ghost use Rattle.store.specs.Facts.{StatePlanned, Found};
 
 use crate::Store;
 use panel::Shape;
+use refusal::Refusal;
 use run::Phase;
-use settings::{Plan, Planned};
-
-// The number of a refusal; or 0, and the plan of the settings file.
-#[derive(Clone, Copy)]
-pub struct Checked {
-    pub number: u8,
-    pub plan: Plan,
-}
+use settings::{AcceptedFile, Plan, Settings};
 
 // Whether a run under way is valid.
-fn phase_valid(file: &[u8], plan: Plan, store: Store) -> bool
-    requires { PlanOf file.now plan }
-    ensures { result ≡ phase_valid file.now store.slots store.phase }
+fn phase_valid(accepted: AcceptedFile, store: Store) -> bool
+    ensures { result ≡ phase_valid accepted.entry.file.now store.slots store.phase }
 {
-    let phase = store.phase;
-    match phase {
-        Phase::Idle => true,
-        Phase::Abandoned => true,
-        Phase::Running(run) => run_conditions::run_valid(file, plan, store.slots, run),
+    match store.phase {
+        Phase::Running(run) => run_conditions::run_valid(accepted, store.slots, run),
+        _ => true,
     }
 }
 
@@ -43,92 +35,61 @@ fn phase_valid(file: &[u8], plan: Plan, store: Store) -> bool
 pub fn is_runs_slot(phase: Phase, slot: u32) -> bool
     ensures { result ≡ is_runs_slot phase slot }
 {
-    match phase {
-        Phase::Idle => false,
-        Phase::Abandoned => false,
-        Phase::Running(run) => run.slot == slot,
-    }
+    matches!(phase, Phase::Running(run) if run.slot == slot)
 }
 
 // Whether the fill keeps its rules: its slot is one of the store's and not that of the run, and it is valid.
 fn fill_valid(shape: Shape, store: Store) -> bool
-    requires { Sized shape }
-    ensures { result ≡ every (fill_rules shape store) }
+    ensures { result ≡ every (fill_rules (sizes shape) store) }
 {
     let fill = store.fill;
-    if store.slots < fill.slot {
-        return false;
-    }
-    let phase = store.phase;
-    if is_runs_slot(phase, fill.slot) {
-        return false;
-    }
-    fill_conditions::valid(shape.bytes, shape.rows, shape.stride, fill)
+    fill.slot <= store.slots
+        && !is_runs_slot(store.phase, fill.slot)
+        && fill_conditions::valid(shape, fill)
 }
 
 // Whether what is kept of the slots does: the fill, and the summaries of slots 0 to n.
 fn slots_valid(shape: Shape, store: Store) -> bool
-    requires { (Sized shape) × (store.slots ≤ 7) }
-    ensures { result ≡ every (slot_rules shape store) }
+    requires { store.slots ≤ 7 }
+    ensures { result ≡ every (slot_rules (sizes shape) store) }
 {
-    if !fill_valid(shape, store) {
-        return false;
-    }
-    let summaries = store.summaries;
-    summary_conditions::summaries_good(shape.bytes, shape.rows, store.slots as usize, summaries)
+    fill_valid(shape, store)
+        && summary_conditions::summaries_good(shape, store.slots as usize, store.summaries)
 }
 
-// Whether a state keeps its conditions, and the plan of its file where it does. The file is the first `len` bytes.
-fn plan_state(file: &[u8], len: usize, store: Store) -> Planned
-    ensures { StatePlanned (settings_of file.now len) store result }
+// Whether a store on an accepted file keeps its conditions.
+fn store_valid(accepted: AcceptedFile, store: Store) -> bool
+    ensures { result ≡ every (store_rules accepted.entry.file.now store) }
 {
-    if file.len() < len {
-        return settings::no_plan();
-    }
-    let kept = &file[..len];
-    let planned = settings::plan_of(kept);
-    let plan = planned.plan;
-    if !planned.ok {
-        return settings::no_plan();
-    }
-    if store.slots < 1 {
-        return settings::no_plan();
-    }
-    if 7 < store.slots {
-        return settings::no_plan();
-    }
-    if !phase_valid(kept, plan, store) {
-        return settings::no_plan();
-    }
-    let shape = plan.shape;
-    let ok = slots_valid(shape, store);
-    Planned { ok, plan }
+    (1..=7).contains(&store.slots)
+        && phase_valid(accepted, store)
+        && slots_valid(accepted.plan.shape, store)
 }
 
-// 13.
-pub fn check_state(file: &[u8], len: usize, store: Store) -> u8
-    ensures { result ≡ first_of (rules_cases (settings_of file.now len) store) (λ n. n) 0 }
+// The plan of a state's file, where the state keeps its conditions.
+fn plan_state(settings: &Settings, store: Store) -> Option<Plan>
+    ensures { StatePlanned settings.now store result }
 {
-    let planned = plan_state(file, len, store);
-    if !planned.ok {
-        return 13;
-    }
-    0
+    let file = settings.file.get(..settings.len)?;
+    let plan = settings::plan_of(file)?;
+    store_valid(AcceptedFile { file, plan }, store).then_some(plan)
 }
 
-// 13 or 1.
-pub fn check_store(file: &[u8], len: usize, store: Store, memory_len: usize) -> Checked
-    ensures { Found (file_in (settings_of file.now len))
-        (memory_cases (settings_of file.now len) store memory_len) result }
+// Whether a state keeps its conditions.
+pub fn check_state(settings: &Settings, store: Store) -> Result<(), Refusal>
+    ensures { number_given result ≡ first_of (rules_cases settings.now store) (λ n. n) 0 }
 {
-    let planned = plan_state(file, len, store);
-    let plan = planned.plan;
-    if !planned.ok {
-        return Checked { number: 13, plan };
+    plan_state(settings, store).ok_or(Refusal::State)?;
+    Ok(())
+}
+
+// The plan of a state's file, where the state keeps its conditions and the memory has the length of its store.
+pub fn check_store(settings: &Settings, store: Store, memory_len: usize) -> Result<Plan, Refusal>
+    ensures { Found (file_in settings.now) (memory_cases settings.now store memory_len) result }
+{
+    let plan = plan_state(settings, store).ok_or(Refusal::State)?;
+    if memory_len != slots::store_bytes(plan.shape, store.slots) {
+        return Err(Refusal::Memory);
     }
-    let shape = plan.shape;
-    if memory_len != slots::store_bytes(shape, store.slots) {
-        return Checked { number: 1, plan };
-    }
-    Checked { number: 0, plan }
+    Ok(plan)
 }

@@ -11,7 +11,7 @@ use run::Phase;
 use summary::Summary;
 
 // What changes from call to call: the number n of the last slot, where the store stands, the bitmap file that comes in chunks, and the
-// summaries of slots 0 to n, in eight places.
+// summaries of slots 0 to n, in eight places: memory is fixed, n is at most 7, and the theorem `summaries_hold` speaks of them.
 #[derive(Clone, Copy)]
 pub struct Store {
     pub slots: u32,
@@ -24,13 +24,11 @@ pub struct Store {
 pub fn new_store(n: u32) -> Store
     ensures { result ≡ new_store n }
 {
-    let fill = fill::empty();
-    let summaries = summary::empty_summaries();
     Store {
         slots: n,
         phase: Phase::Idle,
-        fill,
-        summaries,
+        fill: fill::empty(),
+        summaries: summary::empty_summaries(),
     }
 }
 
@@ -39,41 +37,20 @@ impl Store {
     pub fn with_phase(self, phase: Phase) -> Store
         ensures { result ≡ set_phase self phase }
     {
-        let fill = self.fill;
-        let summaries = self.summaries;
-        Store {
-            slots: self.slots,
-            phase,
-            fill,
-            summaries,
-        }
+        Store { phase, ..self }
     }
 
     // The store with another fill.
     pub fn with_fill(self, fill: Fill) -> Store
         ensures { result ≡ set_fill self fill }
     {
-        let phase = self.phase;
-        let summaries = self.summaries;
-        Store {
-            slots: self.slots,
-            phase,
-            fill,
-            summaries,
-        }
+        Store { fill, ..self }
     }
 
     // The store with other summaries.
     pub fn with_summaries(self, summaries: [Summary; 8]) -> Store
         ensures { result ≡ set_summaries self summaries }
     {
-        let phase = self.phase;
-        let fill = self.fill;
-        Store {
-            slots: self.slots,
-            phase,
-            fill,
-            summaries,
-        }
+        Store { summaries, ..self }
     }
 }

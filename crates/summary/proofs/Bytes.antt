@@ -2,21 +2,28 @@
 -- Assumes nothing.
 use mathlib.Core.Path.{◌≡◌, refl, sym, ap, ◌∙◌}
 use mathlib.Core.Bool.{Bool, true, false, cond, ◌&&◌}
-use mathlib.Core.List.{List}
-use Prim.Native.Nat.{ℕ, zero, suc, ◌+◌, ◌-◌, ◌*◌, ◌/◌, ◌%◌, ◌≤◌, ◌<◌}
-use native.Mathlib.Nat.{mul_comm, add-mul, add_assoc, zero-add}
+use mathlib.Core.List.{List, [], ◌∷◌}
+use Prim.Native.Nat.{ℕ, zero, suc, ◌+◌, ◌*◌, ◌/◌, ◌%◌, ◌≤◌, ◌<◌}
+use native.Mathlib.Nat.{mul_comm, add-mul, zero-add}
 use native.Mathlib.Numerals.{add-one}
 use native.Mathlib.Decide.{ℕ_discrete}
 use native.Mathlib.Omega.{arith}
+use mir.Syntax.{w8}
+use Rattle.std.specs.Int.{count_zeros}
 use lib.Bits.{bit_and, and_comm, and_mask, and_le_l}
+use Rattle.std.proofs.Math.Bool.{and_assoc}
+use mathlib.Core.Bool.{and-true}
 use lib.Count.{ones, ones_in}
 use lib.Dec.{eqb, ltb}
-use lib.ListN.{get_or}
+use Rattle.std.proofs.Common.{get_or-drop}
+use lib.ListN.{get_or, length, take, drop, length-drop}
+use Rattle.std.specs.List.{sum_by, fold}
+use Rattle.std.proofs.lemmas.List.Sums.{sum_by-cons, sum_by-le, sum_by_more}
 use borrow.Author.Tests.{ne_eqb, eqb-true, ltb-true}
 use Rattle.lists.proofs.Rules.{below_all}
 use Rattle.panel.specs.Dots.{bit, dot}
 use Rattle.counting.specs.Below.{sum_below}
-use Rattle.counting.proofs.Below.{sum_cong, sum_term, sum-most, sum-parts, sum_blocks}
+use Rattle.counting.proofs.Below.{sum_cong, sum-most, sum_blocks}
 use Rattle.picture.specs.Slots.{picture_of}
 use Rattle.summary.specs.Summaries.{black_in_row}
 use Rattle.summary.specs.Facts.{black_in_byte, black_from}
@@ -33,12 +40,10 @@ unfolding black_in_byte
 byte_le byte = sum-most 8 1 (λ j. cond (eqb (bit byte j) 0) 1 0) (λ j. one_le (eqb (bit byte j) 0))
 
 -- the bits that are not set, computed for each byte
-pub byte_ones : (byte : ℕ) → byte < 256 → (ones byte ≤ 8) × (8 - ones byte ≡ black_in_byte byte)
+pub byte_zeros : (byte : ℕ) → byte < 256 → count_zeros w8 byte ≡ black_in_byte byte
 unfolding black_in_byte ones ones_in
-byte_ones byte h =
-    let e = below_all 256 (λ n. eqb (ones n + black_in_byte n) 8) refl byte h in
-    let p : ones byte + black_in_byte byte ≡ 8 = eqb-true (ones byte + black_in_byte byte) 8 e in
-    (omega arith, omega arith)
+byte_zeros byte h =
+    eqb-true (count_zeros w8 byte) (black_in_byte byte) (below_all 256 (λ n. eqb (count_zeros w8 n) (black_in_byte n)) refl byte h)
 
 -- a byte has no black dot where it is FF, and else has one
 byte_white : black_in_byte 0xFF ≡ 0
@@ -48,53 +53,6 @@ byte_white = refl
 byte_some : (byte : ℕ) → byte < 256 → (byte ≡ 0xFF → ⊥) → 0 < black_in_byte byte
 unfolding black_in_byte
 byte_some byte h n = ltb-true 0 (black_in_byte byte) (below_all 255 (λ k. ltb 0 (black_in_byte k)) refl byte (omega arith))
-
--- ---- bytes of a list
-
-module _ (bytes : List ℕ) (at : ℕ) where
-  pub from_le : (n : ℕ) → black_from bytes at n ≤ n * 8
-  from_le n = sum-most n 8 (λ k. black_in_byte (get_or bytes (at + k) 0)) (λ k. byte_le (get_or bytes (at + k) 0))
-
-  -- m bytes more
-  pub from_parts : (n m : ℕ) → black_from bytes at (n + m) ≡ black_from bytes at n + black_from bytes (at + n) m
-  from_parts n m =
-      sum-parts n m (λ k. black_in_byte (get_or bytes (at + k) 0))
-      ∙ ap (λ (rest : ℕ). black_from bytes at n + rest)
-      (sum_cong m (λ i. black_in_byte (get_or bytes (at + (n + i)) 0)) (λ i. black_in_byte (get_or bytes (at + n + i) 0))
-      (λ i _. ap (λ (k : ℕ). black_in_byte (get_or bytes k 0)) (sym (add_assoc at n i))))
-
-  -- of a count, and of bytes that have no black dot
-  pub from_next : (i n black more : ℕ) → black ≡ black_from bytes at i → more ≡ black_from bytes (at + i) n
-      → black + more ≡ black_from bytes at (i + n)
-  from_next i n black more e q = rw (from_parts i n, e, q)
-
-  pub white_next : (i n : ℕ) → black_from bytes at i ≡ 0 → eqb (black_from bytes (at + i) n) 0 ≡ true → black_from bytes at (i + n) ≡ 0
-  white_next i n e q = omega (arith, from_parts i n, e, eqb-true (black_from bytes (at + i) n) 0 q)
-
-  -- one byte more
-  pub from_more : (i black more : ℕ) → black ≡ black_from bytes at i → more ≡ black_in_byte (get_or bytes (at + i) 0)
-      → black + more ≡ black_from bytes at (i + 1)
-  from_more i black more e q = rw (add-one, e, q)
-
-  pub white_more : (i : ℕ) → black_from bytes at i ≡ 0 → get_or bytes (at + i) 0 ≡ 0xFF → black_from bytes at (i + 1) ≡ 0
-  white_more i e q = rw add-one (omega (arith, e, ap black_in_byte q ∙ byte_white))
-
-  -- a byte that has one is among n
-  pub some_from : (n i : ℕ) → i < n → get_or bytes (at + i) 0 < 256 → (get_or bytes (at + i) 0 ≡ 0xFF → ⊥) → 0 < black_from bytes at n
-  some_from n i h byte black =
-      omega (arith, byte_some (get_or bytes (at + i) 0) byte black, sum_term n (λ k. black_in_byte (get_or bytes (at + k) 0)) i h)
-
--- ---- bytes that are all FF
-
--- the bits that are set in both of two bytes are all set where they are in each
-both_white : (a c : ℕ) → a < 256 → c < 256 → eqb (bit_and a c) 0xFF ≡ (eqb a 0xFF && eqb c 0xFF)
-both_white a c ha hc =
-    elim (ℕ_discrete a 0xFF) [
-      | yes e ↦
-          let m : bit_and 0xFF c ≡ c = and_comm 0xFF c ∙ and_mask c 8 ∙ (let f : c % 256 ≡ c = omega arith in f) in
-          rw (e, m)
-      | no n ↦ rw (ne_eqb a 0xFF n, ne_eqb (bit_and a c) 0xFF (λ e. absurd (omega (arith, and_le_l a c))))
-    ]
 
 -- a count stays 0 where what is added is 0
 none_added : (n m : ℕ) → eqb (n + m) 0 ≡ (eqb n 0 && eqb m 0)
@@ -108,13 +66,48 @@ byte_none byte h =
       | no n ↦ ne_eqb byte 0xFF n ∙ sym (ne_eqb (black_in_byte byte) 0 (λ e. absurd (omega (arith, byte_some byte h n))))
     ]
 
+-- ---- bytes of a list
+
+pub bytes_le : (bytes : List ℕ) → sum_by black_in_byte bytes ≤ length bytes * 8
+bytes_le bytes = sum_by-le black_in_byte 8 bytes (λ k d _. byte_le (get_or bytes k d))
+
+-- the bits that are set in both of two bytes are all set where they are in each
+both_white : (a c : ℕ) → a < 256 → c < 256 → eqb (bit_and a c) 0xFF ≡ (eqb a 0xFF && eqb c 0xFF)
+both_white a c ha hc =
+    elim (ℕ_discrete a 0xFF) [
+      | yes e ↦
+          let m : bit_and 0xFF c ≡ c = and_comm 0xFF c ∙ and_mask c 8 ∙ (let f : c % 256 ≡ c = omega arith in f) in
+          rw (e, m)
+      | no n ↦ rw (ne_eqb a 0xFF n, ne_eqb (bit_and a c) 0xFF (λ e. absurd (omega (arith, and_le_l a c))))
+    ]
+
+-- of those that are set in all of the bytes and in another one: none of the bytes has a black dot
+pub all_white : (bytes : List ℕ) (a : ℕ) → a < 256 → ((k : ℕ) → get_or bytes k 0 < 256)
+    → eqb (fold bit_and a bytes) 0xFF ≡ (eqb a 0xFF && eqb (sum_by black_in_byte bytes) 0)
+all_white [] a h fits = rw and-true
+all_white (byte ∷ bytes) a h fits =
+    let less : bit_and a byte < 256 = omega (arith, and_le_l a byte) in
+    all_white bytes (bit_and a byte) less (λ k. fits (suc k))
+    ∙ rw (both_white a byte h (fits 0), byte_none byte (fits 0), sum_by-cons black_in_byte byte bytes)
+    (and_assoc (eqb a 0xFF) (eqb (black_in_byte byte) 0) (eqb (sum_by black_in_byte bytes) 0)
+    ∙ ap (λ rest. eqb a 0xFF && rest) (sym (none_added (black_in_byte byte) (sum_by black_in_byte bytes))))
+
 -- one byte more
-pub all_white_more : (bytes : List ℕ) (at i all : ℕ) → all < 256 → get_or bytes (at + i) 0 < 256 → eqb all 0xFF ≡ eqb (black_from bytes at i) 0
-    → eqb (bit_and all (get_or bytes (at + i) 0)) 0xFF ≡ eqb (black_from bytes at (i + 1)) 0
-all_white_more bytes at i all ha hb e =
-    both_white all (get_or bytes (at + i) 0) ha hb
-    ∙ rw (e, byte_none (get_or bytes (at + i) 0) hb, add-one)
-    (sym (none_added (black_from bytes at i) (black_in_byte (get_or bytes (at + i) 0))))
+pub black_more : (bytes : List ℕ) (i black more : ℕ) → i < length bytes → black ≡ sum_by black_in_byte (take i bytes)
+    → more ≡ black_in_byte (get_or bytes i 0) → black + more ≡ sum_by black_in_byte (take (i + 1) bytes)
+black_more bytes i black more h e q = rw (e, q) (sym (sum_by_more black_in_byte bytes i 0 h))
+
+-- of bytes that have no black dot
+pub white_more : (bytes : List ℕ) (i : ℕ) → i < length bytes → sum_by black_in_byte (take i bytes) ≡ 0 → get_or bytes i 0 ≡ 0xFF
+    → sum_by black_in_byte (take (i + 1) bytes) ≡ 0
+white_more bytes i h e q = sym (black_more bytes i 0 0 h (sym e) (rw q (sym byte_white)))
+
+-- the n bytes from index `at` on
+pub part_black : (bytes : List ℕ) (at n : ℕ) → at + n ≤ length bytes → sum_by black_in_byte (take n (drop at bytes)) ≡ black_from bytes at n
+part_black bytes at zero h = refl
+part_black bytes at (suc n) h =
+    rw add-one at (sum_by_more black_in_byte (drop at bytes) n 0 (omega (arith, length-drop at bytes)))
+    ∙ rw (part_black bytes at n (omega arith), get_or-drop at bytes n 0)
 
 -- ---- how a slot keeps its rows
 

@@ -1,54 +1,34 @@
 -- Laws of the conditions of 13: what the tests say, that a fresh count keeps them, and that every place does after each change of one.
 -- Assumes nothing.
-use mathlib.Core.Path.{◌≡◌, sym, ◌∙◌}
-use mathlib.Core.Bool.{Bool, true, false, cond, not, and-true}
+use Rattle.std.proofs.Math.Bool.{and_comm}
+use Rattle.std.specs.List.{list_all}
+use Rattle.std.proofs.lemmas.List.Folds.{list_all_more}
+use mathlib.Core.Path.{refl, ◌≡◌, ◌∙◌}
+use mathlib.Core.Bool.{Bool, true, cond, not}
 use mathlib.Core.List.{List, [], ◌∷◌}
 use Prim.Native.Nat.{ℕ, zero, suc, ◌+◌, ◌*◌, ◌≤◌, ◌<◌}
 use native.Mathlib.Nat.{mul_comm}
 use native.Mathlib.Numerals.{add-one}
 use native.Mathlib.Decide.{ℕ_discrete}
 use native.Mathlib.Omega.{arith}
-use lib.Dec.{eqb, leb, ltb}
-use lib.ListN.{get_or, set, replicate, get_or-replicate}
+use lib.Dec.{eqb}
+use lib.ListN.{length, take, get_or, set, replicate, get_or-replicate}
 use lib.Seq.{get_or-set_other}
-use borrow.Author.Tests.{ne_eqb, le-leb, lt-leb, lt-ltb}
+use borrow.Author.Tests.{le-leb, lt-ltb}
 use Rattle.lists.specs.Rules.{all_below}
-use Rattle.lists.proofs.Rules.{below_all, below_fails, broken, by_test, none, keep, all_kept}
+use Rattle.lists.proofs.Rules.{below_all, by_test, none, keep, all_kept}
 use Rattle.panel.specs.Dots.{dot}
 use Rattle.counting.specs.Below.{first_below, last_below}
 use Rattle.counting.proofs.Below.{all_each, sum-most}
-use Rattle.summary.specs.Summaries.{black_in_row, black_dots, has_black, summary_of, empty_summary}
+use Rattle.summary.specs.Summaries.{black_in_row, black_dots, has_black, summary_of, empty_summary, given}
 use Rattle.summary.specs.Conditions.{span_good, summary_good, summaries_good}
 use Rattle.summary.specs.declared.Span.{Span}
-use Rattle.summary.specs.declared.Span.TheVariants.{Blank, Rows}
+use Rattle.std.proofs.Common.{Option, None}
 use Rattle.summary.specs.declared.Summary.{Summary}
 use Rattle.summary.proofs.Bytes.{one_le}
 use Rattle.summary.proofs.Rows.{rows-between}
 
 -- ---- one summary
-
--- the first test of rows that fails, and the last where the others hold
-module _ (h black first last : ℕ) where
-  abbrev tests : List Bool
-  tests = not (eqb black 0) ∷ leb first last ∷ ltb last h ∷ []
-
-  pub rows-at_none : black ≡ 0 → false ≡ span_good h black (Rows first last)
-  rows-at_none e = sym (broken 0 tests (rw e))
-
-  pub rows_crossed : last < first → false ≡ span_good h black (Rows first last)
-  rows_crossed l = sym (broken 1 tests (lt-leb first last l))
-
-  pub rows_last : (black ≡ 0 → ⊥) → first ≤ last → ltb last h ≡ span_good h black (Rows first last)
-  rows_last n l = simp (ne_eqb black 0 n, le-leb first last l, and-true)
-
-module _ (b h : ℕ) (summary : Summary) where
-  pub too_many : 8 * b * h < summary.black → false ≡ summary_good b h summary
-  unfolding summary_good
-  too_many l = rw (lt-leb summary.black (8 * b * h) l)
-
-  pub few-enough : summary.black ≤ 8 * b * h → span_good h summary.black summary.span ≡ summary_good b h summary
-  unfolding summary_good
-  few-enough l = rw (le-leb summary.black (8 * b * h) l)
 
 -- a fresh count keeps the conditions
 module _ (b h : ℕ) (picture : List ℕ) where
@@ -68,7 +48,7 @@ module _ (b h : ℕ) (picture : List ℕ) where
       let first = first_below h (has_black b picture) in
       let last = last_below h (has_black b picture) in
       rw (le-leb black (8 * b * h) black_most)
-      (by_test (λ (span : Span). span_good h black span ≡ true) (eqb black 0) Blank (Rows first last) (λ none. none)
+      (by_test (λ (span : Option Span). span_good h black span ≡ true) (eqb black 0) None (given first last) (λ none. none)
       (λ some.
       let rows = rows-between b h picture some in
       let counted : not (eqb black 0) ≡ true = rw some in
@@ -80,15 +60,16 @@ module _ (b h : ℕ) (summaries : List Summary) where
   abbrev pub good_at : ℕ → Bool
   good_at slot = summary_good b h (get_or summaries slot empty_summary)
 
-  pub one_bad : (n slot : ℕ) → slot ≤ n → good_at slot ≡ false → false ≡ summaries_good b h n summaries
-  unfolding summaries_good
-  one_bad n slot l e = sym (below_fails (suc n) good_at slot (omega arith) e)
+  -- the conditions are asked of the first places
+  good_front : (n : ℕ) → n ≤ length summaries → list_all (summary_good b h) (take n summaries) ≡ all_below n good_at
+  good_front zero l = refl
+  good_front (suc n) l =
+      rw add-one at (list_all_more (summary_good b h) summaries n empty_summary (omega arith))
+      ∙ rw (good_front n (omega arith)) (and_comm (all_below n good_at) (good_at n))
 
-  pub all_good : (n slot : ℕ) → slot ≡ n + 1 → all_below slot good_at ≡ true → true ≡ summaries_good b h n summaries
+  pub all_good : (n : ℕ) → n < length summaries → list_all (summary_good b h) (take (n + 1) summaries) ≡ summaries_good b h n summaries
   unfolding summaries_good
-  all_good n slot p e =
-      let q : slot ≡ suc n = p ∙ add-one n in
-      sym (rw q at e)
+  all_good n l = rw add-one (good_front (suc n) (omega arith))
 
 module _ (b h n : ℕ) where
   pub good_empty : summary_good b h empty_summary ≡ true

@@ -1,24 +1,25 @@
 -- Laws of rows with a black dot, and of the scans for the first and the last.
 -- Assumes nothing.
-use mathlib.Core.Path.{◌≡◌, refl, ◌∙◌}
-use mathlib.Core.Bool.{Bool, true, false, cond}
+use mathlib.Core.Path.{◌≡◌, refl, sym, ◌∙◌}
+use mathlib.Core.Bool.{Bool, true, false, cond, not}
 use mathlib.Core.List.{List}
 use Prim.Native.Nat.{ℕ, suc, ◌+◌, ◌-◌, ◌*◌, ◌≤◌, ◌<◌}
+use native.Mathlib.Nat.{add-mul}
 use native.Mathlib.Decide.{ℕ_discrete}
 use native.Mathlib.Omega.{arith}
 use lib.Dec.{eqb}
-use lib.ListN.{get_or}
+use lib.ListN.{length, take, drop}
+use Rattle.std.specs.List.{sum_by}
 use borrow.Author.Tests.{ne_eqb, eqb-true, eqb-false, not-true, not-false}
 use Rattle.lists.proofs.Parts.{more_rows}
 use Rattle.counting.specs.Below.{first_below, last_below}
 use Rattle.counting.proofs.Below.{sum_none, sum_term, sum_some}
 use Rattle.counting.proofs.Below.{first_is, first_true, first_fails, last_is, last_true, last_most, last_fails, last_lt}
 use Rattle.picture.specs.Slots.{picture_of}
-use Rattle.picture.proofs.Regions.{slot_small}
 use Rattle.summary.specs.Summaries.{black_in_row, black_dots, has_black}
-use Rattle.summary.specs.Facts.{black_from, first_black, last_black}
-use Rattle.summary.specs.declared.Found.TheVariants.{At, Nothing}
-use Rattle.summary.proofs.Bytes.{some_from, row_bytes}
+use Rattle.summary.specs.Facts.{black_in_byte, first_black, last_black}
+use Rattle.std.proofs.Common.{Some, None}
+use Rattle.summary.proofs.Bytes.{part_black, row_bytes}
 
 -- ---- the rows of a picture
 
@@ -49,38 +50,38 @@ module _ (b h : ℕ) (picture : List ℕ) where
 
   -- ---- what a scan finds
 
-  pub first_none : ((y : ℕ) → y < h → has_black b picture y ≡ false) → Nothing ≡ first_black b h picture
+  pub first_none : ((y : ℕ) → y < h → has_black b picture y ≡ false) → None ≡ first_black b h picture
   unfolding first_black
   first_none fails = rw (none_black fails)
 
   pub first_found : (y : ℕ) → y < h → has_black b picture y ≡ true → ((k : ℕ) → k < y → has_black b picture k ≡ false)
-      → At y ≡ first_black b h picture
+      → Some y ≡ first_black b h picture
   unfolding first_black
   first_found y l e fails = rw (some_black y l e, first_is h (has_black b picture) y l e fails)
 
-  pub last_none : ((y : ℕ) → y < h → has_black b picture y ≡ false) → Nothing ≡ last_black b h picture
+  pub last_none : ((y : ℕ) → y < h → has_black b picture y ≡ false) → None ≡ last_black b h picture
   unfolding last_black
   last_none fails = rw (none_black fails)
 
   pub last_found : (y : ℕ) → y < h → has_black b picture y ≡ true → ((k : ℕ) → y < k → k < h → has_black b picture k ≡ false)
-      → At y ≡ last_black b h picture
+      → Some y ≡ last_black b h picture
   unfolding last_black
   last_found y l e fails = rw (some_black y l e, last_is h (has_black b picture) y l e fails)
 
   -- nothing says that no dot is black, and a row that one is
-  nothing_black : (t : Bool) (k : ℕ) → eqb (black_dots b h picture) 0 ≡ t → cond t Nothing (At k) ≡ Nothing → black_dots b h picture ≡ 0
+  nothing_black : (t : Bool) (k : ℕ) → eqb (black_dots b h picture) 0 ≡ t → cond t None (Some k) ≡ None → black_dots b h picture ≡ 0
   nothing_black true k e p = eqb-true (black_dots b h picture) 0 e
   nothing_black false k e p = let z : ◌≡◌ {A = ℕ} 0 1 = cc in absurd (omega arith)
 
-  found_black : (t : Bool) (k y : ℕ) → cond t Nothing (At k) ≡ At y → (t ≡ false) × (k ≡ y)
+  found_black : (t : Bool) (k y : ℕ) → cond t None (Some k) ≡ Some y → (t ≡ false) × (k ≡ y)
   found_black true k y p = let z : ◌≡◌ {A = ℕ} 0 1 = cc in absurd (omega arith)
   found_black false k y p = (refl, cc)
 
-  pub first_nothing : first_black b h picture ≡ Nothing → black_dots b h picture ≡ 0
+  pub first_nothing : first_black b h picture ≡ None → black_dots b h picture ≡ 0
   unfolding first_black
   first_nothing e = nothing_black (eqb (black_dots b h picture) 0) (first_below h (has_black b picture)) refl e
 
-  pub last_nothing : last_black b h picture ≡ Nothing → black_dots b h picture ≡ 0
+  pub last_nothing : last_black b h picture ≡ None → black_dots b h picture ≡ 0
   unfolding last_black
   last_nothing e = nothing_black (eqb (black_dots b h picture) 0) (last_below h (has_black b picture)) refl e
 
@@ -118,7 +119,7 @@ module _ (b h : ℕ) (picture : List ℕ) where
         after = λ k m q. last_fails h test k q m;
       }
 
-  pub found_between : (first last : ℕ) → first_black b h picture ≡ At first → last_black b h picture ≡ At last → Between first last
+  pub found_between : (first last : ℕ) → first_black b h picture ≡ Some first → last_black b h picture ≡ Some last → Between first last
   unfolding first_black last_black
   found_between first last p q =
       let black = eqb (black_dots b h picture) 0 in
@@ -128,21 +129,22 @@ module _ (b h : ℕ) (picture : List ℕ) where
 
 -- ---- by the bytes of a slot
 
--- a row lies in it
-pub row_within : (b h y : ℕ) → b ≤ 33 → h ≤ 176 → y < h → (y * b + b ≤ h * b) × (h * b ≤ 5808)
-row_within b h y narrow short low = (more_rows y h b low, slot_small b h narrow short)
+-- the bytes of a row
+module _ (b h : ℕ) (raw : List ℕ) (y : ℕ) (low : y < h) (long : length raw ≡ h * b) where
+  abbrev row : List ℕ
+  row = take ((y + 1) * b - y * b) (drop (y * b) raw)
 
-module _ (b h : ℕ) (raw : List ℕ) (y : ℕ) (low : y < h) where
-  -- a row whose bytes have no black dot, and one with a byte that has
-  pub row_white : black_from raw (y * b) b ≡ 0 → has_black b (picture_of b h raw) y ≡ false
-  row_white e =
-      let p : black_in_row b (picture_of b h raw) y ≡ 0 = row_bytes b h raw y low ∙ e in
-      rw p
+  -- it has a black dot where these have one
+  row_has : not (eqb (sum_by black_in_byte row) 0) ≡ has_black b (picture_of b h raw) y
+  row_has =
+      let n : (y + 1) * b - y * b ≡ b = omega (arith, add-mul y 1 b) in
+      rw (n, part_black raw (y * b) b (omega (arith, more_rows y h b low)), row_bytes b h raw y low)
 
-  pub row_black : (i : ℕ) → i < b → get_or raw (y * b + i) 0 < 256 → (get_or raw (y * b + i) 0 ≡ 0xFF → ⊥)
-      → has_black b (picture_of b h raw) y ≡ true
-  row_black i hi byte black =
-      row_some b (picture_of b h raw) y (omega (arith, row_bytes b h raw y low, some_from raw (y * b) b i hi byte black))
+  pub row_white : sum_by black_in_byte row ≡ 0 → has_black b (picture_of b h raw) y ≡ false
+  row_white e = sym row_has ∙ rw e
+
+  pub row_black : false ≡ eqb (sum_by black_in_byte row) 0 → has_black b (picture_of b h raw) y ≡ true
+  row_black e = sym row_has ∙ rw (sym e)
 
 -- ---- the rows that a scan from the bottom up has passed
 

@@ -7,6 +7,8 @@ use Prim.Native.Nat.{ℕ, zero, suc, ◌+◌, ◌-◌, ◌*◌, ◌≤◌, ◌<�
 use native.Mathlib.Nat.{mul-le-mul_right, add-mul}
 use native.Mathlib.Omega.{arith}
 use lib.Dec.{eqb}
+use lib.ListN.{length, take, drop}
+use Rattle.std.specs.List.{sum_by}
 use borrow.Author.Tests.{eqb-true}
 use Rattle.panel.specs.Dots.{dot}
 use Rattle.panel.proofs.Dots.{dot_lt}
@@ -14,11 +16,11 @@ use Rattle.counting.specs.Below.{sum_below, first_below, last_below}
 use Rattle.counting.proofs.Below.{sum_none, sum_term, sum_some, some_bit, sum-parts}
 use Rattle.picture.specs.Slots.{picture_of}
 use Rattle.picture.proofs.Regions.{slot_small}
-use Rattle.summary.specs.Summaries.{black_in_row, black_dots, has_black, summary_of, empty_summary}
-use Rattle.summary.specs.Facts.{black_from, first_black, last_black}
-use Rattle.summary.specs.declared.Found.TheVariants.{At}
-use Rattle.summary.specs.declared.Span.TheVariants.{Blank, Rows}
-use Rattle.summary.proofs.Bytes.{rows_bytes}
+use Rattle.summary.specs.Summaries.{black_in_row, black_dots, has_black, summary_of, empty_summary, given}
+use Rattle.summary.specs.Facts.{black_in_byte, first_black, last_black}
+use Rattle.std.proofs.Common.{Some, None}
+use Rattle.summary.specs.declared.Span.{Span}
+use Rattle.summary.proofs.Bytes.{part_black, rows_bytes}
 use Rattle.summary.proofs.Rows.{row_none, row_some, some_row, row_le, none_black, Between, rows-between, found_between}
 
 -- ---- what the code counts
@@ -48,31 +50,47 @@ module _ (b h : ℕ) (picture : List ℕ) where
       omega (arith, sum-parts (first + n) rest row, sum-parts first n row, above, under) in
       sym (rw whole at all)
 
-module _ (b h : ℕ) (raw : List ℕ) (first last : ℕ) (top : first_black b h (picture_of b h raw) ≡ At first)
-    (bottom : last_black b h (picture_of b h raw) ≡ At last) where
+module _ (b h : ℕ) (raw : List ℕ) (first last : ℕ) (top : first_black b h (picture_of b h raw) ≡ Some first)
+    (bottom : last_black b h (picture_of b h raw) ≡ Some last) where
   found : Between b h (picture_of b h raw) first last
   found = found_between b h (picture_of b h raw) first last top bottom
 
   -- the bytes of these rows lie in the slot
-  pub rows-within : b ≤ 33 → h ≤ 176
-      → (first ≤ last) × (last < h) × (first * b + (last + 1 - first) * b ≤ h * b) × (h * b ≤ 5808)
+  pub record Within : Type 0 where
+    pub ordered : first ≤ last
+    pub within : last < h
+    pub many : (last + 1) * b - first * b ≡ (last + 1 - first) * b
+    pub starts : first * b ≤ (last + 1) * b
+    pub ends : (last + 1) * b ≤ h * b
+    pub small : h * b ≤ 5808
+
+  pub rows-within : b ≤ 33 → h ≤ 176 → Within
   rows-within narrow short =
       let ordered : first ≤ last = found.ordered in
       let within : last < h = found.within in
-      let n : first + (last + 1 - first) ≡ suc last = omega arith in
-      let e : first * b + (last + 1 - first) * b ≡ suc last * b = sym (add-mul first (last + 1 - first) b) ∙ ap (λ (k : ℕ). k * b) n in
-      (ordered, within, omega (arith, e, mul-le-mul_right b within), slot_small b h narrow short)
+      let n : first + (last + 1 - first) ≡ last + 1 = omega arith in
+      let e : first * b + (last + 1 - first) * b ≡ (last + 1) * b = sym (add-mul first (last + 1 - first) b) ∙ ap (λ (k : ℕ). k * b) n in
+      let below : last + 1 ≤ h = omega arith in
+      record {
+        ordered = ordered;
+        within = within;
+        many = omega (arith, e);
+        starts = omega (arith, e);
+        ends = mul-le-mul_right b below;
+        small = slot_small b h narrow short;
+      }
 
   -- and their count is that of the whole picture
-  pub counted : (black : ℕ) → black ≡ black_from raw (first * b) ((last + 1 - first) * b)
-      → record { black = black; span = Rows first last } ≡ summary_of b h (picture_of b h raw)
+  pub counted : b ≤ 33 → h ≤ 176 → length raw ≡ h * b
+      → (black : ℕ) → black ≡ sum_by black_in_byte (take ((last + 1) * b - first * b) (drop (first * b) raw))
+      → record { black = black; span = given first last } ≡ summary_of b h (picture_of b h raw)
   unfolding summary_of
-  counted black e =
+  counted narrow short long black e =
       let picture : List ℕ = picture_of b h raw in
-      let ordered : first ≤ last = found.ordered in
-      let within : last < h = found.within in
+      let rows = rows-within narrow short in
+      let part = part_black raw (first * b) ((last + 1 - first) * b) (omega (arith, rows.many, rows.starts, rows.ends)) in
       let all : black ≡ black_dots b h picture =
-      e ∙ rows_bytes b h raw first (last + 1 - first) (omega arith) ∙ counted-rows b h picture first last found in
+      rw rows.many at e ∙ part ∙ rows_bytes b h raw first (last + 1 - first) (omega (arith, rows.ordered, rows.within)) ∙ counted-rows b h picture first last found in
       rw (all, found.some, found.first_is, found.last_is)
 
 -- ---- what a summary says of the dots
@@ -117,7 +135,7 @@ module _ (b h : ℕ) (picture : List ℕ) where
       (none_black b h picture
       (λ y hy. let e : black_in_row b picture y ≡ 0 = white_row b picture y (λ x hx. white x y hx hy) in rw e))
 
-  rows_given : (first last : ℕ) → (summary_of b h picture).span ≡ Rows first last → Between b h picture first last
+  rows_given : (first last : ℕ) → (summary_of b h picture).span ≡ given first last → Between b h picture first last
   unfolding summary_of
   rows_given first last e = go (eqb (black_dots b h picture) 0) refl e where
     f : ℕ
@@ -126,20 +144,21 @@ module _ (b h : ℕ) (picture : List ℕ) where
     l : ℕ
     l = last_below h (has_black b picture)
 
-    go : (t : Bool) → eqb (black_dots b h picture) 0 ≡ t → cond t Blank (Rows f l) ≡ Rows first last → Between b h picture first last
+    go : (t : Bool) → eqb (black_dots b h picture) 0 ≡ t → cond t None (given f l) ≡ given first last → Between b h picture first last
     go true p q = let z : ◌≡◌ {A = ℕ} 0 1 = cc in absurd (omega arith)
     go false p q =
-        let i : f ≡ first = cc in
-        let j : l ≡ last = cc in
+        let same : ◌≡◌ {A = Span} (record { first = f; last = l }) (record { first = first; last = last }) = cc in
+        let i : f ≡ first = ap (λ (span : Span). span.first) same in
+        let j : l ≡ last = ap (λ (span : Span). span.last) same in
         rw (i, j) at (rows-between b h picture p)
 
   -- the first and the last row have a black dot, and every black dot lies in a row from the first to the last
-  pub ends_black : (first last : ℕ) → (summary_of b h picture).span ≡ Rows first last → BlackDot b picture first × BlackDot b picture last
+  pub ends_black : (first last : ℕ) → (summary_of b h picture).span ≡ given first last → BlackDot b picture first × BlackDot b picture last
   ends_black first last e =
       let rows = rows_given first last e in
       (some_dot b picture first rows.first_black, some_dot b picture last rows.last_black)
 
-  pub black_rows : (first last : ℕ) → (summary_of b h picture).span ≡ Rows first last
+  pub black_rows : (first last : ℕ) → (summary_of b h picture).span ≡ given first last
       → (x y : ℕ) → x < 8 * b → y < h → dot b picture x y ≡ 0 → (first ≤ y) × (y ≤ last)
   black_rows first last e x y hx hy d =
       let rows = rows_given first last e in
@@ -150,6 +169,6 @@ module _ (b h : ℕ) (picture : List ℕ) where
       (omega arith, omega arith)
 
 -- three rows of eight dots: none, two in the middle (the byte of document 01's worked region), and the rightmost one
-pub worked : summary_of 1 3 (0xFF ∷ 0xE7 ∷ 0xFE ∷ []) ≡ record { black = 3; span = Rows 1 2 }
+pub worked : summary_of 1 3 (0xFF ∷ 0xE7 ∷ 0xFE ∷ []) ≡ record { black = 3; span = given 1 2 }
 unfolding summary_of black_dots black_in_row dot
 worked = refl

@@ -1,12 +1,10 @@
 -- Names for parts of internal contracts: black dots counted by the bytes that hold them, in whatever order they lie there, and what the
 -- scans for a row find.
 -- Assumes nothing.
-use Rattle.std.specs.Prelude.{ℕ, ◌+◌, cond, List, eqb, get_or}
+use Rattle.std.specs.Prelude.{ℕ, ◌+◌, cond, List, Option, Some, None, eqb, get_or}
 use Rattle.panel.specs.Dots.{bit}
 use Rattle.counting.specs.Below.{sum_below, count_below, first_below, last_below}
 use Rattle.summary.specs.Summaries.{black_dots, has_black}
-use Rattle.summary.specs.declared.Found.{Found}
-use Rattle.summary.specs.declared.Found.TheVariants.{At, Nothing}
 
 -- the black dots of a byte
 unfoldable pub black_in_byte : (byte : ℕ) → ℕ
@@ -18,8 +16,8 @@ black_from bytes at n = sum_below n (λ k. black_in_byte (get_or bytes (at + k) 
 
 -- the first and the last row of a picture with a black dot
 module _ (b h : ℕ) (picture : List ℕ) where
-  unfoldable pub first_black : Found
-  first_black = cond (eqb (black_dots b h picture) 0) Nothing (At (first_below h (has_black b picture)))
+  unfoldable pub first_black : Option ℕ
+  first_black = cond (eqb (black_dots b h picture) 0) None (Some (first_below h (has_black b picture)))
 
-  unfoldable pub last_black : Found
-  last_black = cond (eqb (black_dots b h picture) 0) Nothing (At (last_below h (has_black b picture)))
+  unfoldable pub last_black : Option ℕ
+  last_black = cond (eqb (black_dots b h picture) 0) None (Some (last_below h (has_black b picture)))

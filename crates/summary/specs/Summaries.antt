@@ -1,11 +1,11 @@
 -- Request 2026-05: for every slot the number of black dots and the first and last row with a black dot, or none. All of it is said of the
 -- dots of a picture of h rows of b bytes, whichever way a slot keeps them. A 0 is black.
 -- Assumes nothing.
-use Rattle.std.specs.Prelude.{ℕ, ◌*◌, ◌≤◌, ◌≡◌, Bool, cond, not, List, eqb, length, get_or}
+use Rattle.std.specs.Prelude.{ℕ, ◌*◌, ◌≤◌, ◌≡◌, Bool, cond, not, List, Option, Some, None, eqb, length, get_or}
 use Rattle.panel.specs.Dots.{dot}
 use Rattle.counting.specs.Below.{sum_below, count_below, first_below, last_below}
 use Rattle.picture.specs.Slots.{slot_picture}
-use Rattle.summary.specs.declared.Span.TheVariants.{Blank, Rows}
+use Rattle.summary.specs.declared.Span.{Span}
 use Rattle.summary.specs.declared.Summary.{Summary}
 
 -- ---- one picture
@@ -21,16 +21,20 @@ black_dots b h picture = sum_below h (black_in_row b picture)
 abbrev pub has_black : (b : ℕ) (picture : List ℕ) (y : ℕ) → Bool
 has_black b picture y = not (eqb (black_in_row b picture y) 0)
 
+-- the rows from one to another are given
+abbrev pub given : (first last : ℕ) → Option Span
+given first last = Some (record { first = first; last = last })
+
 -- a fresh count, the summary of a picture: none is given where no dot is black
 unfoldable pub summary_of : (b h : ℕ) (picture : List ℕ) → Summary
 summary_of b h picture = record {
   black = black_dots b h picture;
-  span = cond (eqb (black_dots b h picture) 0) Blank (Rows (first_below h (has_black b picture)) (last_below h (has_black b picture)));
+  span = cond (eqb (black_dots b h picture) 0) None (given (first_below h (has_black b picture)) (last_below h (has_black b picture)));
 }
 
 -- 0 and none
 abbrev pub empty_summary : Summary
-empty_summary = record { black = 0; span = Blank }
+empty_summary = record { black = 0; span = None }
 
 -- ---- the slots of a store
 

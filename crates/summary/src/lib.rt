@@ -1,31 +1,25 @@
-// The summary of a slot: how many dots are black, and the first and last row with one. A slot has h rows of b bytes.
+// The summary of a slot: how many dots are black, and the first and last row with one.
 #![tactic(auto)]
 
-ghost use Rattle.std.specs.Prelude.{◌≡◌, ◌+◌, ◌*◌, ◌≤◌, eqb, length, get_or, set, replicate};
+ghost use Rattle.std.specs.Prelude.{◌≡◌, ◌+◌, ◌*◌, ◌≤◌, eqb, length, get_or, set, replicate, sum_by, Some};
 ghost use Rattle.picture.specs.Slots.{picture_of, slot_picture};
 ghost use Rattle.summary.specs.Summaries.{summary_of, empty_summary};
-ghost use Rattle.summary.specs.Facts.{black_in_byte, black_from, first_black, last_black};
-ghost use Rattle.summary.specs.declared.Found.TheVariants.{At};
+ghost use Rattle.summary.specs.Facts.{black_in_byte, first_black, last_black};
 
-// What a scan for a row finds.
-#[derive(Clone, Copy)]
-enum Found {
-    At(usize),
-    Nothing,
+use panel::Shape;
+
+// The first and the last row with a black dot.
+#[derive(Clone, Copy, Debug, PartialEq, Eq)]
+pub struct Span {
+    pub first: u32,
+    pub last: u32,
 }
 
-// The first and the last row with a black dot, or none.
-#[derive(Clone, Copy)]
-pub enum Span {
-    Blank,
-    Rows { first: u32, last: u32 },
-}
-
-// What is kept beside a slot: the number of its black dots, and where they are.
-#[derive(Clone, Copy)]
+// What is kept beside a slot: the number of its black dots, and the rows where they are, none where the slot is blank.
+#[derive(Clone, Copy, Debug, PartialEq, Eq)]
 pub struct Summary {
     pub black: u32,
-    pub span: Span,
+    pub span: Option<Span>,
 }
 
 // ---- black dots, by the bytes that hold them
@@ -34,108 +28,86 @@ pub struct Summary {
 fn byte_black(byte: u8) -> u8
     ensures { result ≡ black_in_byte byte }
 {
-    8 - u8::count_ones(byte) as u8
+    byte.count_zeros() as u8
 }
 
-// The black dots of at most sixteen bytes, from index `at` on. Their number fits a byte, so that the compiler can count sixteen bytes at
-// once.
-fn few_black(bytes: &[u8], at: usize, n: usize) -> u8
-    requires { (n ≤ 16) × (at + n ≤ length bytes.now) }
-    ensures { result ≡ black_from bytes.now at n }
+// The black dots of at most sixteen bytes. Their number fits a byte, so that the compiler can count sixteen bytes at once.
+fn few_black(bytes: &[u8]) -> u8
+    requires { length bytes.now ≤ 16 }
+    ensures { result ≡ sum_by black_in_byte bytes.now }
 {
     let mut black: u8 = 0;
-    let mut i: usize = 0;
-    while i < n {
-        black += byte_black(bytes[at + i]);
-        i += 1;
+    for byte in bytes {
+        black += byte_black(*byte);
     }
     black
 }
 
-// The black dots of n bytes, from index `at` on.
-fn black_from(bytes: &[u8], at: usize, n: usize) -> u32
-    requires { (n ≤ 5808) × (at + n ≤ length bytes.now) }
-    ensures { result ≡ black_from bytes.now at n }
+// The black dots of bytes: of the last ones, and of whole sixteens.
+fn black_in(bytes: &[u8]) -> u32
+    requires { length bytes.now ≤ 5808 }
+    ensures { result ≡ sum_by black_in_byte bytes.now }
 {
-    let mut black: u32 = 0;
-    let mut i: usize = 0;
-    while i + 16 <= n {
-        black += few_black(bytes, at + i, 16) as u32;
-        i += 16;
+    let (whole, last) = bytes.split_at(bytes.len() - bytes.len() % 16);
+    let mut black = u32::from(few_black(last));
+    for part in whole.chunks_exact(16) {
+        black += u32::from(few_black(part));
     }
-    black + few_black(bytes, at + i, n - i) as u32
+    black
 }
 
-// Whether the sixteen bytes from index `at` on have no black dot: all are FF.
-fn sixteen_white(bytes: &[u8], at: usize) -> bool
-    requires { at + 16 ≤ length bytes.now }
-    ensures { result ≡ eqb (black_from bytes.now at 16) 0 }
+// Whether no byte has a black dot: all are FF. Every byte is read, without a test in between, so that the compiler can take many at once.
+fn all_white(bytes: &[u8]) -> bool
+    ensures { result ≡ eqb (sum_by black_in_byte bytes.now) 0 }
 {
-    let mut all: u8 = 0xFF;
-    let mut i: usize = 0;
-    while i < 16 {
-        all = all & bytes[at + i];
-        i += 1;
-    }
-    all == 0xFF
-}
-
-// How many of n bytes from index `at` on, sixteen by sixteen, come before the first sixteen with a black dot.
-fn white_front(bytes: &[u8], at: usize, n: usize) -> usize
-    requires { (n ≤ 33) × (at + n ≤ length bytes.now) }
-    ensures { (result ≤ n) × (black_from bytes.now at result ≡ 0) }
-{
-    let mut i: usize = 0;
-    while i + 16 <= n {
-        if !sixteen_white(bytes, at + i) {
-            return i;
-        }
-        i += 16;
-    }
-    i
+    bytes.iter().fold(0xFF, |all, byte| all & *byte) == 0xFF
 }
 
 // ---- a fresh count
 
-// The first row with a black dot. The scan stops at the first byte that has one, any byte but FF; white bytes at the front of a row are
-// passed sixteen at a time.
-fn first_row(b: usize, h: usize, raw: &[u8]) -> Found
-    requires { (length raw.now ≡ h * b) × (b ≤ 33) × (h ≤ 176) }
-    ensures { result ≡ first_black b h (picture_of b h raw.now) }
+// The caller lends the bytes of one slot, so each function asks for their length; a type of its own would be no plainer.
+
+// The first row with a black dot. A nested scan over rows and bytes, left by a labelled break with the row found, is the form that the
+// project's rules ask for here. A white row is passed as a whole, many bytes at a time.
+fn first_row(shape: Shape, raw: &[u8]) -> Option<usize>
+    requires { length raw.now ≡ shape.rows * shape.bytes }
+    ensures { result ≡ first_black shape.bytes shape.rows (picture_of shape.bytes shape.rows raw.now) }
 {
     let mut y: usize = 0;
     'rows: loop {
-        if y == h {
-            break 'rows Found::Nothing;
+        if y == shape.rows {
+            break 'rows None;
         }
-        let mut i = white_front(raw, y * b, b);
-        while i < b {
-            if raw[y * b + i] != 0xFF {
-                break 'rows Found::At(y);
+        let row = &raw[y * shape.bytes..(y + 1) * shape.bytes];
+        if !all_white(row) {
+            for byte in row {
+                if *byte != 0xFF {
+                    break 'rows Some(y);
+                }
             }
-            i += 1;
         }
         y += 1;
     }
 }
 
 // The last row with a black dot, found from the bottom up in the same way.
-fn last_row(b: usize, h: usize, raw: &[u8]) -> Found
-    requires { (length raw.now ≡ h * b) × (b ≤ 33) × (h ≤ 176) }
-    ensures { result ≡ last_black b h (picture_of b h raw.now) }
+fn last_row(shape: Shape, raw: &[u8]) -> Option<usize>
+    requires { length raw.now ≡ shape.rows * shape.bytes }
+    ensures { result ≡ last_black shape.bytes shape.rows (picture_of shape.bytes shape.rows raw.now) }
 {
-    let mut y: usize = h;
+    let mut y = shape.rows;
     'rows: loop {
         if y == 0 {
-            break 'rows Found::Nothing;
+            break 'rows None;
         }
         y -= 1;
-        let mut i = white_front(raw, y * b, b);
-        while i < b {
-            if raw[y * b + i] != 0xFF {
-                break 'rows Found::At(y);
+        let row = &raw[y * shape.bytes..(y + 1) * shape.bytes];
+        if !all_white(row) {
+            for byte in row {
+                if *byte != 0xFF {
+                    break 'rows Some(y);
+                }
             }
-            i += 1;
         }
     }
 }
@@ -146,51 +118,56 @@ pub fn empty_summary() -> Summary
 {
     Summary {
         black: 0,
-        span: Span::Blank,
+        span: None,
     }
 }
 
 // The summary of the picture that a slot's bytes hold, where the first and the last row with a black dot are known. Rows outside these
 // are not counted.
-fn summary_between(b: usize, h: usize, raw: &[u8], first: usize, last: usize) -> Summary
-    requires { (length raw.now ≡ h * b) × (b ≤ 33) × (h ≤ 176) × (first_black b h (picture_of b h raw.now) ≡ At first)
-        × (last_black b h (picture_of b h raw.now) ≡ At last) }
-    ensures { result ≡ summary_of b h (picture_of b h raw.now) }
+fn summary_between(shape: Shape, raw: &[u8], first: usize, last: usize) -> Summary
+    requires { (length raw.now ≡ shape.rows * shape.bytes)
+        × (first_black shape.bytes shape.rows (picture_of shape.bytes shape.rows raw.now) ≡ Some first)
+        × (last_black shape.bytes shape.rows (picture_of shape.bytes shape.rows raw.now) ≡ Some last) }
+    ensures { result ≡ summary_of shape.bytes shape.rows (picture_of shape.bytes shape.rows raw.now) }
 {
+    let rows = &raw[first * shape.bytes..(last + 1) * shape.bytes];
     Summary {
-        black: black_from(raw, first * b, (last + 1 - first) * b),
-        span: Span::Rows {
+        black: black_in(rows),
+        span: Some(Span {
             first: first as u32,
             last: last as u32,
-        },
+        }),
     }
 }
 
 // The summary of the picture that a slot's bytes hold.
-pub fn summary_of(b: usize, h: usize, raw: &[u8]) -> Summary
-    requires { (length raw.now ≡ h * b) × (b ≤ 33) × (h ≤ 176) }
-    ensures { result ≡ summary_of b h (picture_of b h raw.now) }
+pub fn summary_of(shape: Shape, raw: &[u8]) -> Summary
+    requires { length raw.now ≡ shape.rows * shape.bytes }
+    ensures { result ≡ summary_of shape.bytes shape.rows (picture_of shape.bytes shape.rows raw.now) }
 {
-    let Found::At(first) = first_row(b, h, raw) else {
+    let Some(first) = first_row(shape, raw) else {
         return empty_summary();
     };
-    let Found::At(last) = last_row(b, h, raw) else {
+    let Some(last) = last_row(shape, raw) else {
         return empty_summary();
     };
-    summary_between(b, h, raw, first, last)
+    summary_between(shape, raw, first, last)
 }
 
 // A fresh count of a slot of the memory: what a call that writes the slot leaves at its place.
-pub fn fresh_count(b: usize, h: usize, memory: &[u8], slot: usize) -> Summary
-    requires { (b ≤ 33) × (h ≤ 176) × (slot ≤ 7) × (slot * (h * b) + h * b ≤ length memory.now) }
-    ensures { result ≡ summary_of b h (slot_picture b h memory.now slot) }
+pub fn fresh_count(shape: Shape, memory: &[u8], slot: usize) -> Summary
+    requires { (slot ≤ 7) × (slot * (shape.rows * shape.bytes) + shape.rows * shape.bytes ≤ length memory.now) }
+    ensures { result ≡ summary_of shape.bytes shape.rows (slot_picture shape.bytes shape.rows memory.now slot) }
 {
-    let start = slot * (h * b);
-    let end = start + h * b;
-    summary_of(b, h, &memory[start..end])
+    let size = shape.rows * shape.bytes;
+    let start = slot * size;
+    summary_of(shape, &memory[start..start + size])
 }
 
 // ---- the places of a store's slots
+
+// Slots 0 to 7 have one place each, used or not: there is no heap, and the store's state holds such an array. A slot is a number there, so
+// `slot ≤ 7` is asked; a type of its own would be no plainer.
 
 // 0 and none at every place, as an opening leaves them.
 pub fn empty_summaries() -> [Summary; 8]

@@ -14,7 +14,7 @@ use lib.Seq.{take_at, drop_at, length-take-le, set-set}
 use Rattle.lists.proofs.Parts.{part_length_lem}
 use Rattle.lists.proofs.Rules.{and_left, and_right, by_cases, taken, none_both, none_parts}
 use Rattle.panel.specs.Facts.{Sized}
-use Rattle.panel.specs.declared.Shape.{Shape}
+use Rattle.panel.specs.Panels.{Sizes}
 use Rattle.picture.specs.Slots.{picture_of, raw_of, slot_bytes, with_bytes, slot_picture, with_picture}
 use Rattle.picture.proofs.Pictures.{Bytes, bytes_take, bytes_drop, bytes_append}
 use Rattle.picture.proofs.Slots.{Rows, slot-fits, length_raw, blank_picture, picture_raw, length_with, bytes_same, bytes_other, with_own}
@@ -88,7 +88,7 @@ of_others (summary slot) = true
 
 module _ (slot : ℕ) (low : 1 ≤ slot) (raw : List ℕ) where
   -- on a panel of these sizes, the slot having held `raw` at the begin
-  record Going (shape : Shape) (bytes : List ℕ) (state : State) (memory : List ℕ) : Type 0 where
+  record Going (shape : Sizes) (bytes : List ℕ) (state : State) (memory : List ℕ) : Type 0 where
     pub sizes : sizes_of state ≡ shape
     pub tests : Tested state (length memory)
     pub fill_is : state.store.fill ≡ fill_of shape.stride slot bytes
@@ -274,7 +274,7 @@ module _ (slot : ℕ) (low : 1 ≤ slot) (raw : List ℕ) where
 
 -- ---- on a panel of these sizes, whose slot held `raw` at the begin
 
-module _ (slot : ℕ) (low : 1 ≤ slot) (raw : List ℕ) (shape : Shape) (z : Sized shape) (rows : Rows shape.bytes shape.rows raw) where
+module _ (slot : ℕ) (low : 1 ≤ slot) (raw : List ℕ) (shape : Sizes) (z : Sized shape) (rows : Rows shape.bytes shape.rows raw) where
   abbrev b₁ : ℕ
   b₁ = shape.bytes
 
@@ -288,17 +288,17 @@ module _ (slot : ℕ) (low : 1 ≤ slot) (raw : List ℕ) (shape : Shape) (z : S
   So = Going slot low raw shape
 
   -- what a call answers, and leaves in the slot
-  abbrev Answers : (k : Shape) → Fed × List ℕ → Reply × List ℕ → Type 0
+  abbrev Answers : (k : Sizes) → Fed × List ℕ → Reply × List ℕ → Type 0
   Answers k r q = (q.0.number ≡ r.0.number) × (slot_picture k.bytes k.rows q.1 slot ≡ picture_of k.bytes k.rows r.1)
 
   answered : {bytes : List ℕ} {state : State} {memory : List ℕ} → So bytes state memory → (call : Call)
-      → (act : Shape → Fill → List ℕ → Fed × List ℕ) (writes : Shape → Fill → Fed → Bool)
-      → ((k : Shape) (f : Fill) → Fills k f call (act k f) (writes k f)) → {r : Fed × List ℕ}
+      → (act : Sizes → Fill → List ℕ → Fed × List ℕ) (writes : Sizes → Fill → Fed → Bool)
+      → ((k : Sizes) (f : Fill) → Fills k f call (act k f) (writes k f)) → {r : Fed × List ℕ}
       → act shape (fill_of s₁ slot bytes) (slot_of b₁ h₁ s₁ bytes raw) ≡ r
       → Answers shape r (on_fill state memory (act (sizes_of state) state.store.fill) (writes (sizes_of state) state.store.fill))
   answered {bytes} {state} {memory} g call act writes kind {r} is =
       subst
-      (λ (k : Shape).
+      (λ (k : Sizes).
       Going slot low raw k bytes state memory → act k (fill_of k.stride slot bytes) (slot_of k.bytes k.rows k.stride bytes raw) ≡ r
       → Answers k r (on_fill state memory (act (sizes_of state) state.store.fill) (writes (sizes_of state) state.store.fill)))
       g.sizes
@@ -330,7 +330,7 @@ module _ (slot : ℕ) (low : 1 ≤ slot) (raw : List ℕ) (shape : Shape) (z : S
           → So (bytes ++ chunk) (call_on state memory (feed_fill chunk)).state (call_on state memory (feed_fill chunk)).memory
       chunk_going e =
           subst
-          (λ (k : Shape).
+          (λ (k : Sizes).
           Going slot low raw k bytes state memory
           → feeding k.bytes k.rows k.stride (fill_of k.stride slot bytes) chunk (slot_of k.bytes k.rows k.stride bytes raw)
           ≡ (fed 0 (fill_of k.stride slot (bytes ++ chunk)), slot_of k.bytes k.rows k.stride (bytes ++ chunk) raw)
@@ -355,7 +355,7 @@ module _ (slot : ℕ) (low : 1 ≤ slot) (raw : List ℕ) (shape : Shape) (z : S
     other_going : (call : Call) → of_others call ≡ true → So bytes (call_on state memory call).state (call_on state memory call).memory
     other_going call o =
         subst
-        (λ (k : Shape).
+        (λ (k : Sizes).
         Going slot low raw k bytes state memory
         → Going slot low raw k bytes (call_on state memory call).state (call_on state memory call).memory)
         g.sizes (λ g'. others slot low raw g' (effect state memory call) o) g

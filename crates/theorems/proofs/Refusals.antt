@@ -11,7 +11,7 @@ use lib.Dec.{eqb}
 use lib.ListN.{length, set, length-replicate}
 use Rattle.lists.specs.Rules.{case, first_of}
 use Rattle.lists.proofs.Rules as rules
-use Rattle.panel.specs.declared.Shape.{Shape}
+use Rattle.panel.specs.Panels.{Sizes}
 use Rattle.picture.specs.Slots.{picture_of, slot_bytes, with_bytes, slot_picture}
 use Rattle.picture.proofs.Slots.{bytes_same}
 use Rattle.bitmap.specs.Header.{file_length}
@@ -62,12 +62,12 @@ by_one : {A : Type 0} (P : A → Type 0) (test : Bool) (n : ℕ) (refusal : ℕ 
 by_one P true n refusal accepted p q = p
 by_one P false n refusal accepted p q = q
 
-abbrev BreaksOrAccepts : (shape : Shape) (call : Call) → Fed × List ℕ → Type 0
+abbrev BreaksOrAccepts : (shape : Sizes) (call : Call) → Fed × List ℕ → Type 0
 BreaksOrAccepts shape call r =
     (breaks_fill call r.0.number ≡ true → r ≡ ended shape.bytes shape.rows r.0.number)
     × (breaks_fill call r.0.number ≡ false → r.0.number ≡ 0)
 
-acts : {shape : Shape} {fill : Fill} {call : Call} {act : List ℕ → Fed × List ℕ} {writes : Fed → Bool} → Fills shape fill call act writes → (raw : List ℕ)
+acts : {shape : Sizes} {fill : Fill} {call : Call} {act : List ℕ → Fed × List ℕ} {writes : Fed → Bool} → Fills shape fill call act writes → (raw : List ℕ)
     → BreaksOrAccepts shape call (act raw)
 unfolding feeding finishing cancelling
 acts {shape} {fill} {call} (feeds chunk) raw =

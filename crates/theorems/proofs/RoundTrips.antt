@@ -12,8 +12,7 @@ use Rattle.lists.specs.Lists.{overlay}
 use Rattle.lists.proofs.Lists.{take-overlay}
 use Rattle.lists.proofs.Rules.{None, none, past, taken, by_cases, none_of, none_parts, none_both}
 use Rattle.panel.specs.Facts.{Sized}
-use Rattle.panel.specs.declared.Shape.{Shape}
-use Rattle.panel.specs.Panels.{shape_of}
+use Rattle.panel.specs.Panels.{shape_of, Sizes}
 use Rattle.panel.proofs.Panels.{size_of}
 use Rattle.settings.specs.Settings.{panel_of, row_bytes_in, rows_in, stride_in}
 use Rattle.settings.proofs.Accepted.{good-panel}
@@ -180,14 +179,14 @@ module _ (state : State) (memory : List ℕ) (slot : ℕ) where
 
 module _ (memory : List ℕ) (source : ℕ) (out : List ℕ) where
   -- the picture and the file of the slot that is written, on a panel of these sizes
-  abbrev picture_on : Shape → List ℕ
+  abbrev picture_on : Sizes → List ℕ
   picture_on z = slot_picture z.bytes z.rows memory source
 
-  abbrev file_on : Shape → List ℕ
+  abbrev file_on : Sizes → List ℕ
   file_on z = written_file z.bytes z.rows z.stride (picture_on z)
 
   -- the file is accepted and reads back as the picture, and the output has it
-  record Made (z : Shape) : Type 0 where
+  record Made (z : Sizes) : Type 0 where
     pub rows : Rows z.bytes z.rows (picture_on z)
     pub good : bitmap_good z.bytes z.rows z.stride (file_on z) ≡ true
     pub read : read_picture z.bytes z.rows z.stride (file_on z) ≡ picture_on z
@@ -246,6 +245,6 @@ file_carries state memory source out bytes accepted other before slot same-panel
     (bitmap_upload other before slot (file_left (sizes_of other) (bitmap_written (sizes_of other) memory source out))) =
     rw file.left there in
     subst
-    (λ (z : Shape). Carried z memory source other before slot (bitmap_upload other before slot (file_left z (bitmap_written z memory source out))))
+    (λ (z : Sizes). Carried z memory source other before slot (bitmap_upload other before slot (file_left z (bitmap_written z memory source out))))
     (sym sizes) put)
     accepted

@@ -3,7 +3,7 @@
 -- Assumes nothing.
 use Rattle.std.specs.Prelude.{ℕ, ◌≡◌, List, length, take}
 use Rattle.lists.specs.Rules.{first_of}
-use Rattle.panel.specs.declared.Shape.{Shape}
+use Rattle.panel.specs.Panels.{Sizes}
 use Rattle.settings.specs.Settings.{panel_of}
 use Rattle.picture.specs.Slots.{slot_picture}
 use Rattle.bitmap.specs.Header.{file_length}
@@ -14,12 +14,12 @@ use Rattle.board.specs.declared.State.{State}
 use Rattle.board.specs.declared.Reply.{Reply}
 
 -- the file that the writer left at the front of its output
-abbrev pub file_left : (shape : Shape) (out : List ℕ) → List ℕ
+abbrev pub file_left : (shape : Sizes) (out : List ℕ) → List ℕ
 file_left shape out = take (file_length shape.rows shape.stride) out
 
 -- what an upload left: it is accepted, with a fresh count of its slot; the slot holds the picture of the slot that was written, and every
 -- other slot is as it was
-pub record Carried (shape : Shape) (written : List ℕ) (source : ℕ) (state : State) (before : List ℕ) (slot : ℕ) (left : Reply × List ℕ) : Type 0 where
+pub record Carried (shape : Sizes) (written : List ℕ) (source : ℕ) (state : State) (before : List ℕ) (slot : ℕ) (left : Reply × List ℕ) : Type 0 where
   pub accepted : left.0 ≡ reply 0 (counted shape state left.1 slot)
   pub holds : slot_picture shape.bytes shape.rows left.1 slot ≡ slot_picture shape.bytes shape.rows written source
   pub others : (t : ℕ) → (t ≡ slot → ⊥)

@@ -31,10 +31,7 @@ fn after(bytes: &[u8], at: usize, n: usize) -> usize
     requires { at ≤ length bytes.now }
     ensures { (result ≡ index_after bytes.now at n) × (result ≤ length bytes.now) }
 {
-    if bytes.len() - at < n {
-        return bytes.len();
-    }
-    at + n
+    at + n.min(bytes.len() - at)
 }
 
 // Shows slot 1: starts a run, and polls it until it is done. Answers how many bytes went to the panel, or 0 after a refusal.
@@ -45,20 +42,17 @@ fn show(state: State, memory: &mut [u8], bus: &mut [u8]) -> usize
     let started = state.start(memory, 1, Tick(tick));
     let mut state = started.state;
     let mut at: usize = 0;
-    let mut left = ENOUGH;
-    while left > 0 {
+    for made in 0..ENOUGH {
         let polled = state.poll(Tick(tick), memory, &mut bus[at..]);
-        let next = polled.state;
-        state = next;
+        state = polled.state;
         let answer = polled.answer;
         match answer {
             Answer::Write(n) => at = after(bus, at, n),
             Answer::Line(n) => at = after(bus, at, n),
-            Answer::Wait(ms) => tick = std::num::wrapping_add_u32(tick, ms),
+            Answer::Wait(ms) => tick = tick.wrapping_add(ms),
             Answer::Done => return at,
             Answer::Refused(_) => return 0,
         }
-        left -= 1;
     }
     0
 }
@@ -72,13 +66,12 @@ fn feed(state: State, memory: &mut [u8], bitmap: &[u8], size: usize) -> State
     if size == 0 {
         return state;
     }
-    let mut at: usize = 0;
-    while at < bitmap.len() {
-        let end = after(bitmap, at, size);
-        let fed = state.feed_fill(memory, &bitmap[at..end]);
-        let next = fed.state;
-        state = next;
-        at = end;
+    let mut rest = bitmap;
+    while !rest.is_empty() {
+        let (chunk, left) = rest.split_at(after(rest, 0, size));
+        let fed = state.feed_fill(memory, chunk);
+        state = fed.state;
+        rest = left;
     }
     state
 }
@@ -95,10 +88,8 @@ pub extern "C" fn store_update(
         ≡ updated settings.now bitmap.now memory.old bus.old }
 {
     let opened = board::open(settings, 1, memory);
-    let state = opened.state;
-    let uploaded = state.upload_bitmap(memory, 1, bitmap);
-    let state = uploaded.state;
-    show(state, memory, bus)
+    let uploaded = opened.state.upload_bitmap(memory, 1, bitmap);
+    show(uploaded.state, memory, bus)
 }
 
 // Opens a store; answers the number of the opening.
@@ -117,8 +108,7 @@ pub extern "C" fn store_bitmap(settings: &[u8], bitmap: &[u8], memory: &mut [u8]
         ≡ numbered (bitmap_stored settings.now bitmap.now memory.old) }
 {
     let opened = board::open(settings, 1, memory);
-    let state = opened.state;
-    let uploaded = state.upload_bitmap(memory, 1, bitmap);
+    let uploaded = opened.state.upload_bitmap(memory, 1, bitmap);
     uploaded.number
 }
 
@@ -137,8 +127,9 @@ pub extern "C" fn store_region(
         ≡ numbered (region_stored settings.now x y width height payload.now memory.old) }
 {
     let opened = board::open(settings, 1, memory);
-    let state = opened.state;
-    let reply = state.upload_region(memory, 1, x, y, width, height, payload);
+    let reply = opened
+        .state
+        .upload_region(memory, 1, x, y, width, height, payload);
     reply.number
 }
 
@@ -149,10 +140,8 @@ pub extern "C" fn store_fill(settings: &[u8], bitmap: &[u8], size: usize, memory
         ≡ numbered (fill_stored settings.now bitmap.now size memory.old) }
 {
     let opened = board::open(settings, 1, memory);
-    let state = opened.state;
-    let begun = state.begin_fill(memory, 1);
-    let state = begun.state;
-    let fed = feed(state, memory, bitmap, size);
+    let begun = opened.state.begin_fill(memory, 1);
+    let fed = feed(begun.state, memory, bitmap, size);
     let finished = fed.finish_fill(memory);
     finished.number
 }

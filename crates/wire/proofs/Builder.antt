@@ -1,15 +1,21 @@
 -- What `inRange` says, as facts, and the ways out of the line builder.
 -- Assumes nothing.
-use mathlib.Core.Path.{◌≡◌, sym}
-use mathlib.Core.Bool.{true, false, and-true}
-use mathlib.Core.List.{List}
+use mathlib.Core.Path.{◌≡◌, ap, ◌∙◌}
+use mathlib.Core.Bool.{true, false}
+use mathlib.Core.List.{List, [], ◌∷◌}
 use Prim.Native.Nat.{ℕ, ◌≤◌, ◌<◌}
-use borrow.Author.Tests.{ltb-true, leb-true, eqb-true, lt-ltb, le-ltb, le-leb}
-use lib.Dec.{eqb}
-use lib.ListN.{length, get_or}
+use borrow.Author.Tests.{ltb-true, leb-true, eqb-true, lt-ltb, le-ltb}
+use lib.Dec.{eqb, leb, ltb}
+use lib.ListN.{length}
 use Rattle.lists.specs.Lists.{overlay}
 use Rattle.lists.proofs.Rules.{holds, broken}
-use Rattle.panel.specs.Panels.{is_panel, rows_of, row_bytes_of}
+use Rattle.lists.specs.Rules.{every}
+use Rattle.panel.specs.Panels.{Sizes, is_panel, rows_of, row_bytes_of, shape_of}
+use Rattle.panel.specs.Facts.{sizes}
+use Rattle.panel.specs.Names.{panel_code}
+use Rattle.panel.specs.declared.sizes.Shape.{Shape}
+use Rattle.panel.specs.declared.table.Panel.{Panel}
+use Rattle.panel.proofs.Panels.{code_lt}
 use Rattle.panel.specs.Dots.{row_dot}
 use Rattle.wire.specs.Line.{line, line_length}
 use Rattle.wire.specs.Builder.{range_tests, in_range, build_line}
@@ -33,18 +39,24 @@ in_range_lem panel stage y row_length e =
       bytes_ok = eqb-true _ _ (holds 4 tests e);
     }
 
--- a test that fails is enough
-pub not_in_range : (k panel stage y row_length : ℕ) → get_or (range_tests panel stage y row_length) k true ≡ false
-    → false ≡ in_range panel stage y row_length
-unfolding in_range
-not_in_range k panel stage y row_length e = sym (broken k (range_tests panel stage y row_length) e)
+-- what the code has: a panel that the number names, and its sizes
+module _ (code stage y row_length : ℕ) where
+  pub unnamed_lem : 3 ≤ code → in_range code stage y row_length ≡ false
+  unfolding in_range
+  unnamed_lem h = broken 0 (range_tests code stage y row_length) (le-ltb code 3 h)
 
--- the last test decides where those before it hold; b is the panel's row bytes
-pub range_last : (panel stage y row_length b : ℕ) → is_panel panel ≡ true → 1 ≤ stage → stage ≤ 4 → y < rows_of panel → b ≡ row_bytes_of panel
-    → eqb row_length b ≡ in_range panel stage y row_length
-unfolding in_range
-range_last panel stage y row_length b p s t r e =
-    rw (p, le-leb 1 stage s, le-leb stage 4 t, lt-ltb y (rows_of panel) r, e, and-true)
+  module _ (panel : Panel) (shape : Shape) (named : panel_code panel ≡ code) (is : sizes shape ≡ shape_of (panel_code panel)) where
+    pub rows_named : shape.rows ≡ rows_of code
+    rows_named = ap (λ (s : Sizes). s.rows) is ∙ ap rows_of named
+
+    pub bytes_named : shape.bytes ≡ row_bytes_of code
+    bytes_named = ap (λ (s : Sizes). s.bytes) is ∙ ap row_bytes_of named
+
+    pub named_lem : every (leb 1 stage ∷ leb stage 4 ∷ ltb y shape.rows ∷ eqb row_length shape.bytes ∷ []) ≡ in_range code stage y row_length
+    unfolding in_range
+    named_lem =
+        let p : is_panel code ≡ true = lt-ltb code 3 (rw named at (code_lt panel)) in
+        rw (p, rows_named, bytes_named)
 
 -- ---- the ways out of the builder
 

@@ -1,7 +1,7 @@
 -- Document 01, "One line on the wire": the bytes of one row, on a panel of b row bytes and h rows, X = 8b dots wide.
 -- A row is given as its dots: dot x is `row x`, 1 for white.
 -- Assumes nothing.
-use Rattle.std.specs.Prelude.{ℕ, ◌+◌, ◌-◌, ◌*◌, ◌/◌, ◌%◌, cond, List, [], ◌∷◌, ◌++◌, eqb}
+use Rattle.std.specs.Prelude.{ℕ, ◌+◌, ◌-◌, ◌*◌, ◌/◌, ◌%◌, Bool, cond, List, [], ◌∷◌, ◌++◌, eqb}
 use Rattle.lists.specs.Lists.{tabulate}
 use Rattle.panel.specs.Codes.{code_of, scan_mark}
 use Rattle.wire.specs.Registers.{register_write}
@@ -18,6 +18,10 @@ even_byte code j = pack_codes (code (8 * j)) (code (8 * j + 2)) (code (8 * j + 4
 unfoldable pub odd_byte : (X : ℕ) (code : ℕ → ℕ) (k : ℕ) → ℕ
 odd_byte X code k =
     pack_codes (code (X - 1 - 8 * k)) (code (X - 3 - 8 * k)) (code (X - 5 - 8 * k)) (code (X - 7 - 8 * k))
+
+-- one of the two
+abbrev pub dots_byte : (odd : Bool) (X : ℕ) (code : ℕ → ℕ) (k : ℕ) → ℕ
+dots_byte odd X code k = cond odd (odd_byte X code k) (even_byte code k)
 
 -- for row y, scan byte floor(y/4) is the row's mark; all other scan bytes are 0
 unfoldable pub scan_byte : (y i : ℕ) → ℕ

@@ -1,5 +1,7 @@
 // What the programs of worked examples share: bytes to lend, and lines to print.
 #![tactic(auto)]
 
-pub mod rooms;
+mod lent;
 pub mod tell;
+
+pub use lent::Lent;

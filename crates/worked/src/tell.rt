@@ -1,48 +1,36 @@
-// What the program prints.
+// What the programs print.
+use crate::Lent;
 use board::State;
 use poll::Answer;
 use run::Tick;
-use std::io;
+use std::{fmt, io};
 
-pub fn text(rt: &impl Print, bytes: &[u8]) -> io::Result<()> {
-    rt.write_all(bytes)
-}
+// A poll's answer as it is printed: the number of a refusal, or the kind, with the ms of a wait.
+#[derive(Clone, Copy)]
+struct Told(Answer);
 
-// A word and a number.
-pub fn number(rt: &impl Print, word: &[u8], n: u64) -> io::Result<()> {
-    text(rt, word)?;
-    print!(rt; "{n}")
-}
-
-// A word, a number, and the end of the line.
-pub fn count(rt: &impl Print, word: &[u8], n: u64) -> io::Result<()> {
-    number(rt, word, n)?;
-    println!(rt)
-}
-
-// A poll's answer on a line: the number of a refusal, or the kind, with the ms of a wait.
-pub fn answer(rt: &impl Print, answer: Answer) -> io::Result<()> {
-    match answer {
-        Answer::Refused(number) => println!(rt; "{number}"),
-        Answer::Write(_) => println!(rt; "write"),
-        Answer::Line(_) => println!(rt; "line"),
-        Answer::Wait(ms) => println!(rt; "wait {ms}"),
-        Answer::Done => println!(rt; "done"),
+impl fmt::Display for Told {
+    fn fmt<W: fmt::Write>(&self, f: &mut fmt::Formatter<W>) -> fmt::Result {
+        match self.0 {
+            Answer::Refused(number) => write!(f, "{number}"),
+            Answer::Write(_) => write!(f, "write"),
+            Answer::Line(_) => write!(f, "line"),
+            Answer::Wait(ms) => write!(f, "wait {ms}"),
+            Answer::Done => write!(f, "done"),
+        }
     }
 }
 
 // Polls at a tick, prints the words and the answer, and gives back the next state.
 pub fn poll(
     rt: &impl Print,
-    words: &[u8],
+    words: &str,
     state: State,
     tick: u32,
-    memory: &mut [u8],
-    out: &mut [u8],
+    lent: &mut Lent,
 ) -> io::Result<State> {
-    let polled = state.poll(Tick(tick), memory, out);
-    let said = polled.answer;
-    text(rt, words)?;
-    answer(rt, said)?;
+    let polled = state.poll(Tick(tick), &mut lent.memory, &mut lent.out);
+    let told = Told(polled.answer);
+    println!(rt; "{words}{told}")?;
     Ok(polled.state)
 }

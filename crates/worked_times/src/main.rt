@@ -6,7 +6,7 @@ use board::State;
 use poll::Answer;
 use run::Tick;
 use std::io;
-use worked::{rooms, tell};
+use worked::{Lent, tell};
 
 // The example file of document 01: panel 1.44", two start writes, one stop wait of 15 ms.
 const FILE: [u8; 20] = [
@@ -26,12 +26,9 @@ const ALL: u32 = 6144;
 const ENOUGH: u32 = 7000;
 
 // A store of slots 0 and 1 that shows slot 1 from tick FIRST on.
-fn started(memory: &mut [u8]) -> State {
-    let file = FILE;
-    let opened = board::open(&file, 1, memory);
-    let state = opened.state;
-    let reply = state.start(memory, 1, Tick(FIRST));
-    reply.state
+fn started(lent: &mut Lent) -> State {
+    let opened = board::open(&FILE, 1, &mut lent.memory).state;
+    opened.start(&lent.memory, 1, Tick(FIRST)).state
 }
 
 // What some polls leave: the state, and how many of them handed out what was asked for.
@@ -41,132 +38,89 @@ struct Batch {
     count: u32,
 }
 
-// The kinds of answers that a batch of polls can ask for.
-const WRITE: u8 = 1;
-
-const LINE: u8 = 2;
-
-// The kind of an answer: WRITE, LINE, or 0 for any other.
-fn kind_of(answer: Answer) -> u8 {
-    match answer {
-        Answer::Write(_) => WRITE,
-        Answer::Line(_) => LINE,
-        _ => 0,
-    }
-}
-
-// Polls n times at a tick, or until an answer of another kind comes.
-fn polls(state: State, kind: u8, n: u32, tick: u32, memory: &mut [u8], out: &mut [u8]) -> Batch {
-    let mut batch = Batch { state, count: 0 };
-    let mut left = n;
-    while left > 0 {
-        let before = batch.state;
-        let polled = before.poll(Tick(tick), memory, out);
-        let answer = polled.answer;
-        let after = polled.state;
-        batch.state = after;
-        if kind_of(answer) != kind {
-            return batch;
+// Polls n times at a tick, or until an answer comes that is not wanted.
+fn polls<F: Fn(Answer) -> bool + Drop>(
+    state: State,
+    wanted: F,
+    n: u32,
+    tick: u32,
+    lent: &mut Lent,
+) -> Batch
+    requires { F.IsAlwaysCallable wanted }
+{
+    let mut state = state;
+    for count in 0..n {
+        let polled = state.poll(Tick(tick), &mut lent.memory, &mut lent.out);
+        state = polled.state;
+        if !wanted(polled.answer) {
+            return Batch { state, count };
         }
-        batch.count = std::num::wrapping_add_u32(batch.count, 1);
-        left -= 1;
     }
-    batch
+    Batch { state, count: n }
 }
 
 // Polls for n lines at a tick and prints how many came.
 fn tell_lines(
     rt: &impl Print,
-    words: &[u8],
+    words: &str,
     state: State,
     n: u32,
     tick: u32,
-    memory: &mut [u8],
-    out: &mut [u8],
+    lent: &mut Lent,
 ) -> io::Result<State> {
-    let batch = polls(state, LINE, n, tick, memory, out);
-    tell::count(rt, words, batch.count as u64)?;
+    let batch = polls(
+        state,
+        |answer| matches!(answer, Answer::Line(_)),
+        n,
+        tick,
+        lent,
+    );
+    let count = batch.count;
+    println!(rt; "{words}{count}")?;
     Ok(batch.state)
 }
 
 // A run whose two start writes are out.
-fn behind_writes(rt: &impl Print, memory: &mut [u8], out: &mut [u8]) -> io::Result<State> {
-    let state = started(memory);
-    let batch = polls(state, WRITE, 2, FIRST, memory, out);
-    tell::count(rt, b"writes at F: ", batch.count as u64)?;
+fn behind_writes(rt: &impl Print, lent: &mut Lent) -> io::Result<State> {
+    let batch = polls(
+        started(lent),
+        |answer| matches!(answer, Answer::Write(_)),
+        2,
+        FIRST,
+        lent,
+    );
+    let count = batch.count;
+    println!(rt; "writes at F: {count}")?;
     Ok(batch.state)
 }
 
 // A run whose first n lines went at F.
-fn behind_first(rt: &impl Print, n: u32, memory: &mut [u8], out: &mut [u8]) -> io::Result<State> {
-    let state = behind_writes(rt, memory, out)?;
-    tell_lines(rt, b"lines at F: ", state, n, FIRST, memory, out)
-}
-
-// Polls before a frame is due, and when it is.
-fn poll_twice(
-    rt: &impl Print,
-    state: State,
-    before: &[u8],
-    early: u32,
-    then: &[u8],
-    due: u32,
-    memory: &mut [u8],
-    out: &mut [u8],
-) -> io::Result<()> {
-    let waiting = tell::poll(rt, before, state, early, memory, out)?;
-    tell::poll(rt, then, waiting, due, memory, out)?;
-    Ok(())
+fn behind_first(rt: &impl Print, n: u32, lent: &mut Lent) -> io::Result<State> {
+    let state = behind_writes(rt, lent)?;
+    tell_lines(rt, "lines at F: ", state, n, FIRST, lent)
 }
 
 // With frame 0 out at F, a poll at 10 answers wait 14, and frame 1 begins at 24.
-fn poll_frame_1(rt: &impl Print, memory: &mut [u8], out: &mut [u8]) -> io::Result<()> {
-    let state = behind_first(rt, FRAME, memory, out)?;
-    poll_twice(
-        rt,
-        state,
-        b"poll at 10: ",
-        10,
-        b"poll at 24: ",
-        24,
-        memory,
-        out,
-    )
+fn poll_frame_1(rt: &impl Print, lent: &mut Lent) -> io::Result<()> {
+    let state = behind_first(rt, FRAME, lent)?;
+    let waiting = tell::poll(rt, "poll at 10: ", state, 10, lent)?;
+    tell::poll(rt, "poll at 24: ", waiting, 24, lent)?;
+    Ok(())
 }
 
-// A run whose frame 0 has its last line at 40.
-fn late_frame_0(rt: &impl Print, memory: &mut [u8], out: &mut [u8]) -> io::Result<State> {
-    let state = behind_first(rt, FRAME - 1, memory, out)?;
-    tell::poll(rt, b"frame 0's last line, at 40: ", state, 40, memory, out)
-}
-
-// After it frame 1 goes at once.
-fn late_frame_1(rt: &impl Print, memory: &mut [u8], out: &mut [u8]) -> io::Result<State> {
-    let state = late_frame_0(rt, memory, out)?;
-    tell_lines(
-        rt,
-        b"lines of frame 1, at 40: ",
-        state,
-        FRAME,
-        40,
-        memory,
-        out,
-    )
+// A run whose frame 0 has its last line at 40; after it frame 1 goes at once.
+fn late_frame_1(rt: &impl Print, lent: &mut Lent) -> io::Result<State> {
+    let state = behind_first(rt, FRAME - 1, lent)?;
+    let late = tell::poll(rt, "frame 0's last line, at 40: ", state, 40, lent)?;
+    tell_lines(rt, "lines of frame 1, at 40: ", late, FRAME, 40, lent)
 }
 
 // After that frame 2 goes from 54, not 70.
-fn poll_frame_2(rt: &impl Print, memory: &mut [u8], out: &mut [u8]) -> io::Result<()> {
-    let state = late_frame_1(rt, memory, out)?;
-    poll_twice(
-        rt,
-        state,
-        b"frame 2, at 53: ",
-        53,
-        b"frame 2, at 54: ",
-        54,
-        memory,
-        out,
-    )
+fn poll_frame_2(rt: &impl Print, lent: &mut Lent) -> io::Result<()> {
+    let state = late_frame_1(rt, lent)?;
+    let waiting = tell::poll(rt, "frame 2, at 53: ", state, 53, lent)?;
+    tell::poll(rt, "frame 2, at 54: ", waiting, 54, lent)?;
+    Ok(())
 }
 
 // ---- whole runs
@@ -180,120 +134,72 @@ struct Drive {
     done: bool,
 }
 
-// What an answer changes besides the state: the clock goes on by the ms of a wait.
-fn heed(drive: Drive, answer: Answer) -> Drive {
-    let mut after = drive;
-    match answer {
-        Answer::Wait(ms) => {
-            after.tick = std::num::wrapping_add_u32(drive.tick, ms);
+impl Drive {
+    // Polls once. The clock goes on by the ms of a wait.
+    fn turn(&mut self, lent: &mut Lent) {
+        let polled = self
+            .state
+            .poll(Tick(self.tick), &mut lent.memory, &mut lent.out);
+        self.state = polled.state;
+        match polled.answer {
+            Answer::Wait(ms) => self.tick = self.tick.wrapping_add(ms),
+            Answer::Line(_) => self.lines = self.lines.wrapping_add(1),
+            Answer::Done => self.done = true,
+            _ => {}
         }
-        Answer::Line(_) => {
-            after.lines = std::num::wrapping_add_u32(drive.lines, 1);
-        }
-        Answer::Done => {
-            after.done = true;
-        }
-        _ => {}
     }
-    after
-}
 
-// Polls once.
-fn turn(drive: Drive, memory: &mut [u8], out: &mut [u8]) -> Drive {
-    let before = drive.state;
-    let polled = before.poll(Tick(drive.tick), memory, out);
-    let answer = polled.answer;
-    let state = polled.state;
-    let mut after = heed(drive, answer);
-    after.state = state;
-    after
-}
-
-// Polls until this many lines went out, or done came.
-fn go(drive: Drive, lines: u32, memory: &mut [u8], out: &mut [u8]) -> Drive {
-    let mut after = drive;
-    let mut left = ENOUGH;
-    while left > 0 {
-        if after.done {
-            return after;
+    // Polls until this many lines went out, or done came.
+    fn go(&mut self, lines: u32, lent: &mut Lent) {
+        for _ in 0..ENOUGH {
+            if self.done || self.lines == lines {
+                return;
+            }
+            self.turn(lent);
         }
-        if after.lines == lines {
-            return after;
-        }
-        after = turn(after, memory, out);
-        left -= 1;
     }
-    after
-}
 
-// The ms from F to the tick of a run.
-fn since_first(drive: Drive) -> u64 {
-    std::num::wrapping_sub_u32(drive.tick, FIRST) as u64
-}
-
-// A run that has handed out all lines but the last, polled as soon as each was due.
-fn before_last(memory: &mut [u8], out: &mut [u8]) -> Drive {
-    let state = started(memory);
-    let begun = Drive {
-        state,
-        tick: FIRST,
-        lines: 0,
-        done: false,
-    };
-    go(begun, ALL - 1, memory, out)
-}
-
-// The run, with its clock at F + `hold`; where `hold` is 0 the clock stays.
-fn held_back(drive: Drive, hold: u32) -> Drive {
-    let mut after = drive;
-    if hold > 0 {
-        after.tick = std::num::wrapping_add_u32(FIRST, hold);
+    // The ms from F to its tick.
+    fn since_first(&self) -> u32 {
+        self.tick.wrapping_sub(FIRST)
     }
-    after
 }
 
 // Hands out the last line and goes on to done.
-fn finish(rt: &impl Print, drive: Drive, memory: &mut [u8], out: &mut [u8]) -> io::Result<()> {
-    let full = go(drive, ALL, memory, out);
-    tell::count(rt, b"lines: ", full.lines as u64)?;
-    tell::count(rt, b"last line at F + ", since_first(full))?;
-    let over = go(full, ALL + 1, memory, out);
-    if over.done {
-        tell::count(rt, b"done at F + ", since_first(over))?;
+fn finish(rt: &impl Print, drive: &mut Drive, lent: &mut Lent) -> io::Result<()> {
+    drive.go(ALL, lent);
+    let lines = drive.lines;
+    let last = drive.since_first();
+    println!(rt; "lines: {lines}")?;
+    println!(rt; "last line at F + {last}")?;
+    drive.go(ALL + 1, lent);
+    let over = drive.since_first();
+    if drive.done {
+        println!(rt; "done at F + {over}")?;
     }
     Ok(())
 }
 
-// A whole run whose last line is held back until F + `hold`, and goes as soon as it is due where `hold` is 0.
-fn run_out(rt: &impl Print, hold: u32, memory: &mut [u8], out: &mut [u8]) -> io::Result<()> {
-    let drive = before_last(memory, out);
-    finish(rt, held_back(drive, hold), memory, out)
+// A whole run, polled as soon as each thing was due, whose last line is held back until F + `hold` if that is given.
+fn run_out(rt: &impl Print, hold: Option<u32>, lent: &mut Lent) -> io::Result<()> {
+    let mut drive = Drive {
+        state: started(lent),
+        tick: FIRST,
+        lines: 0,
+        done: false,
+    };
+    drive.go(ALL - 1, lent);
+    if let Some(ms) = hold {
+        drive.tick = FIRST.wrapping_add(ms);
+    }
+    finish(rt, &mut drive, lent)
 }
 
-// ---- each example on a store of its own
-
-fn on_time(rt: &impl Print) -> io::Result<()> {
-    let mut memory = rooms::memory();
-    let mut out = rooms::output();
-    poll_frame_1(rt, &mut memory, &mut out)
-}
-
-fn late(rt: &impl Print) -> io::Result<()> {
-    let mut memory = rooms::memory();
-    let mut out = rooms::output();
-    poll_frame_2(rt, &mut memory, &mut out)
-}
-
-fn ending(rt: &impl Print, hold: u32) -> io::Result<()> {
-    let mut memory = rooms::memory();
-    let mut out = rooms::output();
-    run_out(rt, hold, &mut memory, &mut out)
-}
-
+// Each example on a store of its own.
 fn main(rt: HostRuntime) -> io::Result<()> {
-    on_time(&rt)?;
-    late(&rt)?;
-    ending(&rt, 0)?;
-    ending(&rt, 1920)?;
-    ending(&rt, 2000)
+    poll_frame_1(&rt, &mut Lent::new())?;
+    poll_frame_2(&rt, &mut Lent::new())?;
+    run_out(&rt, None, &mut Lent::new())?;
+    run_out(&rt, Some(1920), &mut Lent::new())?;
+    run_out(&rt, Some(2000), &mut Lent::new())
 }

@@ -1,7 +1,6 @@
 -- Four things a repeat.
 -- Assumes nothing.
-use native.Mathlib.Omega.{arith}
-use borrow.Author.Rules.{rules}
+use Rattle.std.proofs.Common.{arith}
 use Rattle.finish_order.proofs.Order.{stage-length}
 use Rattle.finish_order.proofs.stage_length.Goals as goal
 

@@ -1,6 +1,5 @@
 -- The table, or the soft start and what comes after it.
 -- Assumes nothing.
-use borrow.Author.Rules.{rules}
 use Rattle.finish_order.proofs.Order.{before-start, from_start_lem, elsewhere}
 use Rattle.finish_order.proofs.step_at.Goals as goal
 

@@ -3,7 +3,6 @@
 use mathlib.Core.Path.{refl}
 use mathlib.Core.Bool.{true}
 use Prim.Native.Nat.{◌<◌}
-use borrow.Author.Rules.{rules}
 use lib.ListN.{replicate}
 use Rattle.finish_order.specs.Order.{done}
 use Rattle.finish_order.specs.Facts.{thing_of, step_within}

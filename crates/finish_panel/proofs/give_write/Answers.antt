@@ -1,19 +1,17 @@
--- The register, and the data after it.
+-- The bytes come after the register.
 -- Assumes nothing.
-use native.Mathlib.Omega.{arith}
-use borrow.Author.Rules.{rules}
-use Rattle.finish_order.specs.Order.{write}
-use Rattle.finish_panel.proofs.Update.{short, written}
+use Rattle.std.proofs.Common.{refl, length}
+use Rattle.std.proofs.lemmas.Result.{err_from_is_err_and}
+use Rattle.finish_panel.proofs.Update.{refused, written}
 use Rattle.finish_panel.proofs.give_write.Goals as goal
 
-pub returns-then-out-n : goal.returns-then-out-n
-returns-then-out-n c =
+pub returns-in_err-given : goal.returns-in_err-given
+returns-in_err-given c =
     let a = c.args in
-    short (write a.register a.bytes.now) a.out.now (omega arith)
+    let p = err_from_is_err_and c.from_residual.result c.from_residual.ensures.1 in
+    rw (p.1, p.2) (refused a.register (length a.bytes.now) a.bytes.now a.out.now refl c.in_err-given.ensures)
 
 pub returns : goal.returns
 returns c =
     let a = c.args in
-    written a.register a.bytes.now a.out.now (omega arith)
-    c.fill_at.ensures
-    c.put_at.ensures
+    rw c.copy_from_slice.ensures.after (written a.register (length a.bytes.now) a.bytes.now a.out.now refl c.in_ok-given.ensures)

@@ -5,4 +5,4 @@ use Rattle.hall_checksum.proofs.Crc.{code_right}
 use Rattle.hall_checksum.proofs.crc16_add.Goals as goal
 
 pub returns : goal.returns
-returns c = code_right c.args.byte c.args.before (omega arith) (omega arith)
+returns c = rw c.from-acc.ensures (code_right c.args.byte c.args.before (omega arith) (omega arith))

@@ -1,11 +1,9 @@
 -- The first box has six levels remaining, its own among them.
 -- Assumes nothing.
-use mathlib.Core.Path.{refl}
+use Rattle.std.proofs.Common.{arith, refl}
 use Rattle.layout_rules.proofs.Boxes.{good_some}
 use Rattle.layout.proofs.Places.{levels_first}
 use Rattle.layout.proofs.Layouts.{all_placed_from}
-use borrow.Author.Rules.{rules}
-use native.Mathlib.Omega.{arith}
 use Rattle.layout.proofs.chart_on.Goals as goal
 
 pub row_layout-requires : goal.row_layout-requires
@@ -17,7 +15,7 @@ row_layout-requires c =
         box = good_some list q.0;
         level = omega (arith, levels_first list);
         inside = record { across = omega (arith, q.1); down = omega (arith, q.2) };
-        whole = rw c.empty_chart.ensures refl;
+        whole = refl;
       },
       refl,
     )
@@ -25,5 +23,4 @@ row_layout-requires c =
 pub returns : goal.returns
 returns c =
     let a = c.args in
-    all_placed_from a.list.now c.requires.0 a.width a.height _ refl c.row_layout.result
-    (rw (← c.empty_chart.ensures) c.row_layout.ensures)
+    all_placed_from a.list.now c.requires.0 a.width a.height _ c.row_layout.new.chart c.in_ok-row_layout.ensures

@@ -1,25 +1,36 @@
 -- The digits, then the byte.
 -- Assumes nothing.
-use mathlib.Core.Path.{◌∙◌}
-use Rattle.listing.proofs.Appended.{appended_next, appended_as}
+use Rattle.std.proofs.Common.{arith, ◌≡◌, ◌<◌, ◌∙◌, ap, length, take, append_assoc}
+use lib.ListN.{length-append, length-take}
+use Rattle.listing.specs.Text.{decimal}
 use Rattle.layout_list.proofs.Lines.{fewest_decimal, fewest_short}
-use native.Mathlib.Omega.{arith}
 use Rattle.layout_list.proofs.put_number.Goals as goal
 
-pub put_text-end-requires : goal.put_text-end-requires
-put_text-end-requires c =
+pub unwrap-requires : goal.unwrap-requires
+unwrap-requires c =
     let d = c.decimal-k in
-    omega (arith, fewest_short c.args.n d.result (omega arith) d.ensures.len, d.ensures.in_bounds.1)
+    let k = fewest_short c.from.result d.result (omega arith) d.ensures.len in
+    c.try_extend_from_slice.ensures.variant.1 (rw length-take (omega (arith, k)))
 
-pub put_text-requires : goal.put_text-requires
-put_text-requires c =
+pub push-requires : goal.push-requires
+push-requires c =
     let d = c.decimal-k in
-    omega (arith, fewest_short c.args.n d.result (omega arith) d.ensures.len, d.ensures.in_bounds.1)
+    let k = fewest_short c.from.result d.result (omega arith) d.ensures.len in
+    let put = rw c.unwrap.ensures at c.try_extend_from_slice.ensures.ok in
+    let room : length c.try_extend_from_slice.new.self.items < 1024 = rw (put, length-append, length-take) (omega (arith, k)) in
+    (omega arith, room)
 
-pub returns : goal.returns
-returns c =
+pub returns-clause-text : goal.returns-clause-text
+returns-clause-text c =
     let d = c.decimal-k in
-    let k = fewest_short c.args.n d.result (omega arith) d.ensures.len in
-    let count = d.ensures.in_bounds.1 in
-    let text = appended_as (d.ensures.digits ∙ fewest_decimal c.args.n d.result (omega arith) d.ensures.len) c.put_text-end.ensures in
-    (appended_next text c.put_text.ensures (omega arith), omega arith)
+    let put = rw c.unwrap.ensures at c.try_extend_from_slice.ensures.ok in
+    let text : take d.result d.new.out ≡ decimal c.args.n =
+    d.ensures.digits ∙ fewest_decimal c.from.result d.result (omega arith) d.ensures.len ∙ ap decimal c.from.ensures in
+    rw (c.push.ensures.items, put, text, append_assoc)
+
+pub returns-clause-short : goal.returns-clause-short
+returns-clause-short c =
+    let d = c.decimal-k in
+    let k = fewest_short c.from.result d.result (omega arith) d.ensures.len in
+    let put = rw c.unwrap.ensures at c.try_extend_from_slice.ensures.ok in
+    rw (c.push.ensures.len, put, length-append, length-take) (omega (arith, k))

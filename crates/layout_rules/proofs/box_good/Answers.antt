@@ -1,38 +1,26 @@
-use mathlib.Core.Bool.{not}
-use mathlib.Core.Path.{ap}
-use mathlib.Core.Path.{◌≡◌, refl}
-use mathlib.Core.Bool.{true}
-use Prim.Native.Nat.{◌-◌, ◌≤◌}
-use Rattle.lists.specs.Rules.{all_below}
-use Rattle.lists.proofs.Rules.{refused, passed}
+-- Too many children, or what each of them keeps.
+-- Assumes nothing.
+use Rattle.std.proofs.Common.{rules, tests, arith, ◌≡◌, ◌+◌, ◌∙◌, true, false}
+use borrow.Author.Tests.{lt-leb}
+use Rattle.std.proofs.lemmas.Iterator.{cases_from_all, YieldsList-from_range}
 use Rattle.layout_rules.specs.Boxes.{child_count, child_good}
-use Rattle.layout_rules.proofs.Boxes.{box-full, box_broken, box_kept}
-use borrow.Author.Rules.{rules}
-use native.Mathlib.Omega.{arith}
-use Rattle.counting.proofs.Below.{all_more}
+use Rattle.layout_rules.proofs.Boxes.{box-full, box_few}
+use Rattle.layout_rules.proofs.Ranges.{below_by_range}
 use Rattle.layout_rules.proofs.box_good.Goals as goal
 
-pub returns-then-k-gt8 : goal.returns-then-k-gt8
-returns-then-k-gt8 c =
+pub returns-then-k-le8 : goal.returns-then-k-le8
+returns-then-k-le8 c =
     let a = c.args in
-    box-full a.list.now a.i a.at c.requires.0 (omega arith)
+    let list = a.list.now in
+    let ran = cases_from_all _ _ _ (λ j. child_good list a.i a.at j ≡ true) (λ j. child_good list a.i a.at j ≡ false) c.all.ensures.ran
+    (YieldsList-from_range 0 (child_count list a.at) (child_count list a.at) (rw c.from-k.ensures) (omega arith))
+    (λ x q k. search (rules, tests)) (λ x q k. search (rules, tests)) in
+    below_by_range _ 0 (child_count list a.at) (child_good list a.i a.at) (λ j. child_good list a.i a.at j ≡ true) (λ j. child_good list a.i a.at j ≡ false)
+    (λ k e. let s : 0 + k ≡ k = omega arith in rw s at e)
+    (λ k e. let s : 0 + k ≡ k = omega arith in rw s at e) ran
+    ∙ box_few list a.i a.at c.requires.0 (omega arith)
 
-pub loop-j-init : goal.loop-j-init
-loop-j-init c = (omega arith, c.wide-k.ensures.0, omega arith, refl)
-
-pub returns-then-not-child_good : goal.returns-then-not-child_good
-returns-then-not-child_good c =
+pub returns-else-k-le8 : goal.returns-else-k-le8
+returns-else-k-le8 c =
     let a = c.args in
-    box_broken a.list.now a.i a.at c.requires.0 c.loop-j.j (omega arith) (refused c.child_good.ensures (ap not c.if-not-child_good.true))
-
-pub loop-j-preserved : goal.loop-j-preserved
-loop-j-preserved c =
-    let a = c.args in
-    let l = c.loop-j in
-    (omega arith, l.invariant.1, l.invariant.2, all_more l.j (child_good a.list.now a.i a.at) (passed c.child_good.ensures (ap not c.if-not-child_good.false)) l.invariant.3)
-
-pub returns : goal.returns
-returns c =
-    let a = c.args in
-    let e : c.loop-j.j ≡ child_count a.list.now a.at = omega arith in
-    box_kept a.list.now a.i a.at c.requires.0 (omega arith) (rw e at c.loop-j.invariant.3)
+    rw (lt-leb c.from-k.result 8 (omega arith)) (box-full a.list.now a.i a.at c.requires.0 (omega arith))

@@ -1,30 +1,24 @@
-use mathlib.Core.Path.{◌≡◌, refl, ap}
-use Prim.Native.Nat.{◌+◌, ◌*◌, ◌-◌, ◌≤◌}
+-- Each byte takes three characters. Assumes nothing.
+use mathlib.Core.Path.{ap, ◌∙◌}
+use mathlib.Core.List.{append_assoc}
 use native.Mathlib.Omega.{arith}
-use borrow.Author.Rules.{rules}
-use lib.ListN.{length, take}
-use lib.Seq.{take_all}
+use lib.ListN.{length, take, length-append, length-take}
 use Rattle.listing.specs.Text.{spaced_bytes}
-use Rattle.listing.specs.Appended.{Appended}
-use Rattle.listing.proofs.Appended.{appended_none, appended_as, length_appended}
-use Rattle.listing.proofs.Text.{spaced_turn}
+use Rattle.listing.proofs.Text.{length_spaced, spaced_turn}
 use Rattle.listing.proofs.put_spaced_bytes.Goals as goal
 
-pub loop-i-init : goal.loop-i-init
-loop-i-init c = (omega arith, omega arith, refl, appended_none c.args.at c.args.out.now)
+pub put_text-requires : goal.put_text-requires
+put_text-requires c =
+    let put = spaced_bytes (take c.loop-byte.byte-index c.args.bytes.now) in
+    omega (
+      arith,
+      ap length c.loop-byte.invariant,
+      length-append c.args.page.now.items put,
+      length_spaced (take c.loop-byte.byte-index c.args.bytes.now),
+      length-take c.loop-byte.byte-index c.args.bytes.now,
+    )
 
-pub loop-i-preserved : goal.loop-i-preserved
-loop-i-preserved c =
-    let p = c in
-    let l = p.loop-i in
-    let a = p.args in
-    let put = c.put_spaced_byte-end in
-    let next = spaced_turn a.bytes.now l.i l.invariant.3 put.ensures (omega arith) (omega arith) in
-    let e : put.result ≡ a.at + 3 * (l.i + 1) = omega (arith, put.ensures.end) in
-    (omega arith, e, length_appended next (omega arith), next)
-
-pub returns : goal.returns
-returns c =
-    let bytes = c.args.bytes.now in
-    let e : take c.loop-i.i bytes ≡ bytes = take_all c.loop-i.i bytes (omega arith) in
-    appended_as (ap spaced_bytes e) c.loop-i.invariant.3
+pub loop-byte-preserved : goal.loop-byte-preserved
+loop-byte-preserved c =
+    rw (spaced_turn c.args.bytes.now c.loop-byte.byte-index c.loop-byte-test.true, ← append_assoc, ← c.loop-byte.invariant)
+    (c.put_text.ensures ∙ rw (c.digit_of.ensures, c.digit_of-in-loop-byte.ensures))

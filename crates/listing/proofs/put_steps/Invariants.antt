@@ -1,25 +1,14 @@
--- Each turn puts one step's line more.
--- Assumes nothing.
-use mathlib.Core.Path.{◌≡◌, refl, ap}
-use Prim.Native.Nat.{◌+◌, ◌*◌, ◌-◌, ◌≤◌}
-use native.Mathlib.Omega.{arith}
-use borrow.Author.Rules.{rules}
+-- Each turn puts one step's line more. Assumes nothing.
+use mathlib.Core.Path.{◌≡◌}
+use mathlib.Core.List.{◌++◌}
+use Prim.Native.Nat.{◌≤◌}
 use lib.ListN.{length, drop}
+use Rattle.panel.specs.Names.{panel_code}
 use Rattle.settings.specs.Settings.{steps_of, rest_of}
-use Rattle.settings.proofs.Steps.{Turn, sized, next_fits}
 use Rattle.listing.specs.Listing.{step_lines}
-use Rattle.listing.specs.Appended.{Appended}
-use Rattle.listing.proofs.Appended.{appended_none, appended_as, length_appended}
-use Rattle.listing.proofs.Steps.{line_short, lines_turn, rest_turn}
 use Rattle.listing.proofs.put_steps.Given as goal
 
-abbrev pub invariant-loop-i : goal.invariant-loop-i
-invariant-loop-i l = (l.i ≤ l.n)
-    × (l.next ≤ length l.file)
-    × (drop l.next l.file ≡ rest_of l.panel l.i (drop l.from l.file))
-    × (l.end ≤ l.at + 33 * l.i)
-    × (length l.out ≡ length l.initial.out)
-    × Appended (step_lines (steps_of l.panel l.i (drop l.from l.file))) l.at l.initial.out l.end l.out
-
-abbrev pub decreases-loop-i : goal.decreases-loop-i
-decreases-loop-i l = l.n - l.i
+abbrev pub invariant-loop : goal.invariant-loop
+invariant-loop l = (l.next ≤ length l.accepted.file.now)
+    × (drop l.next l.accepted.file.now ≡ rest_of (panel_code l.accepted.plan.panel) l.counter (drop l.at l.accepted.file.now))
+    × (l.page.items ≡ l.initial.page.items ++ step_lines (steps_of (panel_code l.accepted.plan.panel) l.counter (drop l.at l.accepted.file.now)))

@@ -1,68 +1,16 @@
-use mathlib.Core.Bool.{not}
-use mathlib.Core.Path.{ap}
-use mathlib.Core.Path.{◌≡◌, refl, sym, ◌∙◌}
-use mathlib.Core.Bool.{true}
-use Prim.Native.Nat.{◌-◌, ◌≤◌, ◌<◌}
-use native.Mathlib.Omega.{arith}
+-- The closure asks each field of the header.
+-- Assumes nothing.
 use borrow.Author.Rules.{rules}
-use lib.ListN.{take}
-use Rattle.lists.specs.Rules.{every}
-use Rattle.lists.proofs.Rules.{refused, passed}
-use Rattle.bitmap.proofs.Fields.{field_at, entry_at, field-within, field-small, field_bad, field_next}
+use borrow.Author.Tests.{tests}
+use Rattle.std.proofs.lemmas.Iterator.{YieldsList-from_slice}
+use Rattle.std.proofs.lemmas.Iterator.Search.{all_from_yields_List}
+use Rattle.bitmap.specs.Header.{header_fields}
 use Rattle.mend.specs.Mending.{field_mendable}
-use Rattle.mend.proofs.Fields.{field_tests}
 use Rattle.mend.proofs.fields_mendable.Goals as goal
-
-pub loop-i-init : goal.loop-i-init
-loop-i-init c = (omega arith, refl)
-
-pub field_mendable-requires : goal.field_mendable-requires
-field_mendable-requires c =
-    let low : c.loop-i.i < 17 = omega arith in
-    let at_place : let a = c.args in
-    c.field_of.result ≡ field_at a.b a.h a.s c.loop-i.i = let low : c.loop-i.i < 17 = omega arith in
-    let known = c in
-    let a = known.args in
-    c.field_of.ensures
-    ∙ entry_at a.b a.h a.s known.table-fields.result (known.table-fields.ensures a.b a.h a.s) c.loop-i.i low _ in
-    let i = c.loop-i.i in
-    let a = c.args in (
-      rw at_place (field-small a.b a.h a.s i low),
-      rw at_place (omega (arith, field-within a.b a.h a.s i low)),
-    )
-
-pub returns-then-not-field_mendable : goal.returns-then-not-field_mendable
-returns-then-not-field_mendable c =
-    let low : c.loop-i.i < 17 = omega arith in
-    let at_place : let a = c.args in
-    c.field_of.result ≡ field_at a.b a.h a.s c.loop-i.i = let low : c.loop-i.i < 17 = omega arith in
-    let known = c in
-    let a = known.args in
-    c.field_of.ensures
-    ∙ entry_at a.b a.h a.s known.table-fields.result (known.table-fields.ensures a.b a.h a.s) c.loop-i.i low _ in
-    let f = c in
-    let a = f.args in
-    sym (field_bad (field_mendable a.file.now) a.b a.h a.s f.loop-i.i low _ at_place
-    (refused c.field_mendable.ensures (ap not c.if-not-field_mendable.true)))
-
-pub loop-i-preserved : goal.loop-i-preserved
-loop-i-preserved c =
-    let low : c.loop-i.i < 17 = omega arith in
-    let at_place : let a = c.args in
-    c.field_of.result ≡ field_at a.b a.h a.s c.loop-i.i = let low : c.loop-i.i < 17 = omega arith in
-    let known = c in
-    let a = known.args in
-    c.field_of.ensures
-    ∙ entry_at a.b a.h a.s known.table-fields.result (known.table-fields.ensures a.b a.h a.s) c.loop-i.i low _ in
-    let f = c in
-    let l = f.loop-i in
-    let a = f.args in (
-      omega arith,
-      field_next (field_mendable a.file.now) a.b a.h a.s l.i low _ at_place l.invariant.1 (passed c.field_mendable.ensures (ap not c.if-not-field_mendable.false)),
-    )
 
 pub returns : goal.returns
 returns c =
-    let l = c.loop-i in
-    let e : l.i ≡ 17 = omega arith in
-    sym (rw e at l.invariant.1)
+    let s = c.args.shape in
+    all_from_yields_List (field_mendable c.args.file.now) _ _ c.all.result c.all.ensures.ran
+    (YieldsList-from_slice (header_fields s.bytes s.rows s.stride) cc)
+    (λ x b q k. search (rules, tests))

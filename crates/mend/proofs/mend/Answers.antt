@@ -1,38 +1,25 @@
 -- The panel is asked first; then the file decides.
 -- Assumes nothing.
-use mathlib.Core.Bool.{not}
-use mathlib.Core.Path.{ap}
-use mathlib.Core.Path.{◌∙◌}
-use native.Mathlib.Omega.{arith}
-use borrow.Author.Tests.{ltb-true}
-use Rattle.lists.proofs.Rules.{refused, passed}
-use Rattle.panel.proofs.Panels.{size_of}
+use mathlib.Core.Path.{ap, ◌∙◌}
+use borrow.Author.Tests.{le-ltb, lt-ltb}
+use Rattle.std.proofs.lemmas.Result.{err_from_is_err_and}
+use Rattle.panel.specs.Panels.{Sizes, shape_of}
+use Rattle.panel.proofs.Panels.{code_lt}
 use Rattle.mend.proofs.Calls.{no_panel, of_panel}
-use borrow.Author.Rules.{rules}
 use Rattle.mend.proofs.mend.Goals as goal
 
-pub returns-then-not-is_panel : goal.returns-then-not-is_panel
-returns-then-not-is_panel c =
+pub returns-in_err-panel : goal.returns-in_err-panel
+returns-in_err-panel c =
     let a = c.args in
-    rw c.refused.ensures (no_panel a.panel a.file.now a.out.now a.list.now (refused c.is_panel.ensures (ap not c.if-not-is_panel.true)))
-
-pub row_bytes-requires : goal.row_bytes-requires
-row_bytes-requires c = omega (arith, ltb-true, passed c.is_panel.ensures (ap not c.if-not-is_panel.false))
-
-pub rows-requires : goal.rows-requires
-rows-requires c = omega (arith, ltb-true, passed c.is_panel.ensures (ap not c.if-not-is_panel.false))
-
-pub stride-requires : goal.stride-requires
-stride-requires c = omega (arith, ltb-true, passed c.is_panel.ensures (ap not c.if-not-is_panel.false))
-
-pub mend_for-requires : goal.mend_for-requires
-mend_for-requires c =
-    let size = size_of c.args.panel (ltb-true c.args.panel 3 (passed c.is_panel.ensures (ap not c.if-not-is_panel.false))) in
-    (omega (arith, c.row_bytes.ensures), omega (arith, c.rows.ensures), omega (arith, c.stride.ensures, size.some, size.within), omega (arith, c.stride.ensures))
+    let p = err_from_is_err_and c.from_residual.result c.from_residual.ensures.1 in
+    rw (p.1, p.2) (no_panel a.panel a.file.now a.out.now a.list.now (le-ltb a.panel 3 c.in_err-panel.ensures))
 
 pub returns : goal.returns
 returns c =
     let a = c.args in
+    let named = c.in_ok-panel.ensures in
+    let is = c.shape.ensures ∙ ap shape_of named in
+    let low = rw named at (code_lt c.in_ok-panel.panel) in
     c.mend_for.ensures
-    ∙ of_panel a.panel a.file.now a.out.now a.list.now (passed c.is_panel.ensures (ap not c.if-not-is_panel.false))
-    c.row_bytes.ensures.0 c.rows.ensures.0 c.stride.ensures.0
+    ∙ of_panel a.panel a.file.now a.out.now a.list.now (lt-ltb a.panel 3 low) (ap (λ (s : Sizes). s.bytes) is) (ap (λ (s : Sizes). s.rows) is)
+    (ap (λ (s : Sizes). s.stride) is)

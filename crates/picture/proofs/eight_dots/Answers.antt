@@ -1,6 +1,5 @@
 -- Eight dots that lie in one byte are that byte; others are joined from two.
 -- Assumes nothing.
-use borrow.Author.Rules.{rules}
 use Rattle.picture.proofs.Joined.{eight_whole, eight_joined}
 use Rattle.picture.proofs.eight_dots.Goals as goal
 

@@ -1,6 +1,5 @@
 -- A dot is read by a shift and the lowest bit.
 -- Assumes nothing.
-use borrow.Author.Rules.{rules}
 use lib.Bits.{and_mask}
 use Rattle.panel.specs.Dots.{row_dot}
 use Rattle.picture.proofs.get_dot.Goals as goal

@@ -1,41 +1,19 @@
-use mathlib.Core.Path.{◌≡◌, refl, sym}
-use mathlib.Core.Bool.{true}
-use Prim.Native.Nat.{◌-◌, ◌*◌, ◌≤◌}
-use native.Mathlib.Omega.{arith}
-use borrow.Author.Rules.{rules}
-use lib.Pow.{pow_pos}
-use Rattle.lists.specs.Rules.{all_below}
-use Rattle.picture.specs.Regions.{row_clear, payload_row}
-use Rattle.lists.proofs.Parts.{more_rows}
-use Rattle.picture.proofs.Regions.{byte_power, row_clear_lem, row_dirty}
+-- What each row answers.
+-- Assumes nothing.
+use Rattle.std.proofs.Common.{rules, tests, arith, ◌≡◌, ◌+◌, true, false}
+use mathlib.Core.Path.{refl}
+use Rattle.std.proofs.lemmas.Iterator.{cases_from_all, YieldsList-from_range}
+use Rattle.lists.proofs.Ranges.{below_by_range}
+use Rattle.picture.specs.Regions.{row_clear}
 use Rattle.picture.proofs.rows_clear.Goals as goal
-
-pub loop-j-init : goal.loop-j-init
-loop-j-init c = (omega arith, refl)
-
-pub overflow_mul-j : goal.overflow_mul-j
-overflow_mul-j c = omega (arith, more_rows c.loop-j.j c.args.height (payload_row c.args.width) (omega arith))
-
-pub overflow_add-j : goal.overflow_add-j
-overflow_add-j c = omega (arith, more_rows c.loop-j.j c.args.height (payload_row c.args.width) (omega arith))
-
-pub bounds-payload-j : goal.bounds-payload-j
-bounds-payload-j c =
-    let a = c.args in
-    omega (arith, more_rows c.loop-j.j a.height (payload_row a.width) (omega arith))
-
-pub returns-then-payload-j-ne0 : goal.returns-then-payload-j-ne0
-returns-then-payload-j-ne0 c =
-    let s = c in
-    row_dirty s.args.width s.args.payload.now (omega arith) c.loop-j.j s.args.height (omega arith) (omega arith)
-
-pub loop-j-preserved : goal.loop-j-preserved
-loop-j-preserved c =
-    let s = c in
-    let l = c.loop-j in
-    (omega arith, row_clear_lem s.args.width s.args.payload.now (omega arith) l.j (omega arith) l.invariant.1)
 
 pub returns : goal.returns
 returns c =
-    let q : c.loop-j.j ≡ c.args.height = omega arith in
-    sym (rw q at c.loop-j.invariant.1)
+    let region = c.args.region in
+    let clear = row_clear region.width c.args.payload.now in
+    let ran = cases_from_all _ _ _ (λ j. clear j ≡ true) (λ j. clear j ≡ false) c.all.ensures.ran
+    (YieldsList-from_range 0 region.height region.height refl (omega arith))
+    (λ x q k. search (rules, tests)) (λ x q k. search (rules, tests)) in
+    below_by_range _ 0 region.height clear (λ j. clear j ≡ true) (λ j. clear j ≡ false)
+    (λ k e. let s : 0 + k ≡ k = omega arith in rw s at e)
+    (λ k e. let s : 0 + k ≡ k = omega arith in rw s at e) ran

@@ -1,12 +1,9 @@
 -- `hand_write` meets its contract. Assumes nothing.
+use Rattle.panel.specs.Names.{panel_code}
 use Rattle.poll.proofs.Next.{write_out}
-use borrow.Author.Rules.{rules}
 use Rattle.poll.proofs.hand_write.Goals as goal
-
-pub put_step-len-requires : goal.put_step-len-requires
-put_step-len-requires c = (c.requires.0, c.requires.1, c.requires.2)
 
 pub returns : goal.returns
 returns c =
     let a = c.args in
-    write_out a.file.now a.run a.tick a.moment a.out.now a.panel a.at a.next c.put_step-len.ensures c.go_on-phase.ensures
+    write_out a.accepted.file.now a.run a.reading.tick a.reading.moment a.out.now (panel_code a.accepted.plan.panel) a.at a.next c.put_step-len.ensures c.go_on.ensures

@@ -1,16 +1,16 @@
 -- `to_go` meets its contract, place by place. Assumes nothing.
-use Rattle.std.proofs.Common.{◌-◌, sym, ap, ◌∙◌, rules}
+use Rattle.std.proofs.Common.{◌-◌, sym, ap, ◌∙◌}
 use Rattle.run.proofs.Due.{due_here, ready_here}
 use Rattle.run.proofs.to_go.Goals as goal
 
 pub start_to_go-requires : goal.start_to_go-requires
-start_to_go-requires c = (c.requires.0, ready_here _ c.args.run c.in-Start.is c.requires.1)
+start_to_go-requires c = ready_here _ c.args.run c.in-Start.is c.requires
 
 pub line_to_go-requires : goal.line_to_go-requires
-line_to_go-requires c = (c.requires.0, ready_here _ c.args.run c.in-Line.is c.requires.1)
+line_to_go-requires c = ready_here _ c.args.run c.in-Line.is c.requires
 
 pub stop_to_go-requires : goal.stop_to_go-requires
-stop_to_go-requires c = (c.requires.0, ready_here _ c.args.run c.in-Stop.is c.requires.1)
+stop_to_go-requires c = ready_here _ c.args.run c.in-Stop.is c.requires
 
 pub returns-in-Start : goal.returns-in-Start
 returns-in-Start c =

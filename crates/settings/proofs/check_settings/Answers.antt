@@ -2,10 +2,10 @@
 use Rattle.settings.specs.Settings.{check_settings}
 use Rattle.settings.proofs.check_settings.Goals as goal
 
-pub returns-then-layout : goal.returns-then-layout
+pub returns-in-Some : goal.returns-in-Some
 unfolding check_settings
-returns-then-layout c = simp (← c.laid_out-layout.ensures.good, c.if-layout.true)
+returns-in-Some c = simp (← c.laid_out.ensures.good, c.in-Some.is)
 
-pub returns-else-layout : goal.returns-else-layout
+pub returns-in-None : goal.returns-in-None
 unfolding check_settings
-returns-else-layout c = simp (← c.laid_out-layout.ensures.good, c.if-layout.false)
+returns-in-None c = simp (← c.laid_out.ensures.good, c.in-None.is)

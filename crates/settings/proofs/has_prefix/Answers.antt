@@ -1,32 +1,14 @@
-use mathlib.Core.Path.{sym, ◌∙◌}
-use Prim.Native.Nat.{◌+◌}
-use native.Mathlib.Nat.{add-zero, add_assoc}
+-- `has_prefix`: std's answer is that of the definition. Assumes nothing.
+use mathlib.Core.Path.{◌≡◌, ◌∙◌}
 use native.Mathlib.Omega.{arith}
-use Rattle.settings.proofs.Prefix.{prefix_differs, prefix_more, prefix_over}
+use Prim.Native.Nat.{◌-◌}
+use lib.ListN.{length, take, drop, length-drop}
+use lib.Seq.{take_all}
+use Rattle.settings.proofs.Prefix.{prefix_is}
 use Rattle.settings.proofs.has_prefix.Goals as goal
-
-pub loop-i-init : goal.loop-i-init
-loop-i-init c = (omega arith, rw add-zero)
-
-pub returns-then-file-at : goal.returns-then-file-at
-returns-then-file-at c =
-    let a = c.args in
-    let i = c.loop-i.i in
-    sym (prefix_differs a.file.now a.prefix.now (a.at + i) i (omega arith) (omega arith) c.if-file-at.true)
-    ∙ c.loop-i.invariant.1
-
-pub loop-i-preserved : goal.loop-i-preserved
-loop-i-preserved c =
-    let a = c.args in
-    let i = c.loop-i.i in (
-      omega arith,
-      rw (← add_assoc)
-          (sym (prefix_more a.file.now a.prefix.now (a.at + i) i (omega arith) (omega arith) c.if-file-at.false)
-          ∙ c.loop-i.invariant.1),
-    )
 
 pub returns : goal.returns
 returns c =
-    let a = c.args in
-    let i = c.loop-i.i in
-    sym (prefix_over a.file.now a.prefix.now (a.at + i) i (omega arith)) ∙ c.loop-i.invariant.1
+    let s = drop c.args.at c.args.file.now in
+    let rest : take (length c.args.file.now - c.args.at) s ≡ s = take_all _ s (omega (arith, length-drop c.args.at c.args.file.now)) in
+    rw rest at c.starts_with.ensures.value ∙ prefix_is s c.args.prefix.now

@@ -1,25 +1,23 @@
--- `place_region`: 5, 6, or the painted region. Assumes nothing.
-use mathlib.Core.Path.{sym, ◌∙◌}
-use Rattle.picture.proofs.Regions.{no_number}
-use Rattle.slots.proofs.Placed.{region_refused, region_accepted}
+-- 5, 6, or the painted region. Assumes nothing.
+use mathlib.Core.Path.{◌≡◌, refl, ◌∙◌}
+use native.Mathlib.Omega.{arith}
 use borrow.Author.Rules.{rules}
+use Rattle.panel.specs.Facts.{sizes}
+use Rattle.refusal.specs.Numbers.{number_of, number_given}
+use Rattle.refusal.proofs.Numbers.{number_some}
+use Rattle.slots.proofs.Placed.{region_refused, region_accepted}
 use Rattle.slots.proofs.place_region.Goals as goal
 
-pub returns-then-number-ne0 : goal.returns-then-number-ne0
-returns-then-number-ne0 c =
+pub returns-in_err-check_region : goal.returns-in_err-check_region
+returns-in_err-check_region c =
     let a = c.args in
-    region_refused a.shape a.memory.now a.slot a.x a.y a.width a.height a.payload.now c.region_number-number.ensures c.if-number-ne0.true
-
-pub paint_region-requires : goal.paint_region-requires
-paint_region-requires c =
-    let e = c in
-    let a = e.args in
-    let p = e.requires in
-    let f = no_number _ _ a.x a.y a.width a.height a.payload.now (sym c.region_number-number.ensures ∙ c.if-number-ne0.false) in
-    (p.sized.some, p.sized.narrow, p.sized.low, p.slot_in.few, p.slot_in.fits, f.0, f.1)
+    let r = a.region in
+    let is : number_given c.from_residual.result ≡ number_of c.in_err-check_region.field-0.0 = search rules in
+    region_refused (sizes a.shape) a.memory.now a.slot r.x r.y r.width r.height a.payload.now (is ∙ c.in_err-check_region.ensures)
+    (λ z. absurd (omega (arith, is, number_some c.in_err-check_region.field-0.0)))
 
 pub returns : goal.returns
 returns c =
     let a = c.args in
-    region_accepted a.shape a.memory.now a.slot a.x a.y a.width a.height a.payload.now c.region_number-number.ensures c.if-number-ne0.false
-    c.paint_region.ensures
+    let r = a.region in
+    region_accepted (sizes a.shape) a.memory.now a.slot r.x r.y r.width r.height a.payload.now c.in_ok-check_region.ensures refl c.paint_region.ensures

@@ -1,6 +1,5 @@
 -- Every place has the empty summary.
 -- Assumes nothing.
-use borrow.Author.Rules.{rules}
 use Rattle.summary.proofs.empty_summaries.Goals as goal
 
 pub returns : goal.returns

@@ -2,24 +2,21 @@
 -- Assumes nothing.
 use mathlib.Core.Path.{◌≡◌}
 use mathlib.Core.Bool.{false}
-use Prim.Native.Nat.{ℕ, ◌+◌, ◌-◌, ◌*◌, ◌≤◌, ◌<◌}
-use native.Mathlib.Omega.{arith}
-use borrow.Author.Rules.{rules}
+use Prim.Native.Nat.{ℕ, ◌≤◌, ◌<◌}
+use lib.ListN.{take}
+use Rattle.std.specs.List.{sum_by}
 use Rattle.picture.specs.Slots.{picture_of}
 use Rattle.summary.specs.Summaries.{has_black}
-use Rattle.summary.specs.Facts.{black_from}
-use Rattle.summary.proofs.Bytes.{white_more}
-use Rattle.summary.proofs.Rows.{row_within, row_white, row_black, fails_before, last_none, last_found}
+use Rattle.summary.specs.Facts.{black_in_byte}
 use Rattle.summary.proofs.last_row.Given as goal
 
-abbrev pub invariant-loop-i : goal.invariant-loop-i
-invariant-loop-i l = (l.i ≤ l.b) × (black_from l.raw (l.y * l.b) l.i ≡ 0)
-
-abbrev pub decreases-loop-i : goal.decreases-loop-i
-decreases-loop-i l = l.b - l.i
-
 abbrev pub invariant-rows : goal.invariant-rows
-invariant-rows l = (l.y ≤ l.h) × ((k : ℕ) → l.y ≤ k → k < l.h → has_black l.b (picture_of l.b l.h l.raw) k ≡ false)
+invariant-rows l =
+    (l.y ≤ l.shape.rows)
+    × ((k : ℕ) → l.y ≤ k → k < l.shape.rows → has_black l.shape.bytes (picture_of l.shape.bytes l.shape.rows l.raw) k ≡ false)
 
 abbrev pub decreases-rows : goal.decreases-rows
 decreases-rows l = l.y
+
+abbrev pub invariant-loop-byte : goal.invariant-loop-byte
+invariant-loop-byte l = sum_by black_in_byte (take l.byte-index l.row) ≡ 0

@@ -4,51 +4,64 @@ use native.Mathlib.Omega.{arith}
 use Rattle.summary.proofs.Summaries.{rows-within, counted}
 use Rattle.summary.proofs.summary_between.Goals as goal
 
-pub overflow_mul-first : goal.overflow_mul-first
-overflow_mul-first c =
+pub overflow_mul-rows : goal.overflow_mul-rows
+overflow_mul-rows c =
     let a = c.args in
     let p = c.requires in
-    omega (arith, rows-within a.b a.h a.raw.now a.first a.last p.3 p.4 p.1 p.2)
+    let rows = rows-within a.shape.bytes a.shape.rows a.raw.now a.first a.last p.1 p.2 a.shape.narrow a.shape.low in
+    omega arith
 
-pub overflow_add-last : goal.overflow_add-last
-overflow_add-last c =
+pub overflow_add-rows : goal.overflow_add-rows
+overflow_add-rows c =
     let a = c.args in
     let p = c.requires in
-    omega (arith, rows-within a.b a.h a.raw.now a.first a.last p.3 p.4 p.1 p.2)
+    let rows = rows-within a.shape.bytes a.shape.rows a.raw.now a.first a.last p.1 p.2 a.shape.narrow a.shape.low in
+    omega arith
 
-pub overflow_sub-last : goal.overflow_sub-last
-overflow_sub-last c =
+pub overflow_mul-rows-2 : goal.overflow_mul-rows-2
+overflow_mul-rows-2 c =
     let a = c.args in
     let p = c.requires in
-    omega (arith, rows-within a.b a.h a.raw.now a.first a.last p.3 p.4 p.1 p.2)
+    let rows = rows-within a.shape.bytes a.shape.rows a.raw.now a.first a.last p.1 p.2 a.shape.narrow a.shape.low in
+    omega arith
 
-pub overflow_mul-last : goal.overflow_mul-last
-overflow_mul-last c =
+pub slice_bounds-rows-count : goal.slice_bounds-rows-count
+slice_bounds-rows-count c =
     let a = c.args in
     let p = c.requires in
-    omega (arith, rows-within a.b a.h a.raw.now a.first a.last p.3 p.4 p.1 p.2)
+    let rows = rows-within a.shape.bytes a.shape.rows a.raw.now a.first a.last p.1 p.2 a.shape.narrow a.shape.low in
+    omega arith
 
-pub black_from-requires : goal.black_from-requires
-black_from-requires c =
+pub slice_bounds-rows-start : goal.slice_bounds-rows-start
+slice_bounds-rows-start c =
     let a = c.args in
     let p = c.requires in
-    let rows = rows-within a.b a.h a.raw.now a.first a.last p.3 p.4 p.1 p.2 in
-    (omega (arith, rows), omega (arith, rows))
+    let rows = rows-within a.shape.bytes a.shape.rows a.raw.now a.first a.last p.1 p.2 a.shape.narrow a.shape.low in
+    omega arith
+
+pub slice_bounds-rows-end : goal.slice_bounds-rows-end
+slice_bounds-rows-end c =
+    let a = c.args in
+    let p = c.requires in
+    let rows = rows-within a.shape.bytes a.shape.rows a.raw.now a.first a.last p.1 p.2 a.shape.narrow a.shape.low in
+    omega arith
 
 pub overflow_cast-result : goal.overflow_cast-result
 overflow_cast-result c =
     let a = c.args in
     let p = c.requires in
-    omega (arith, rows-within a.b a.h a.raw.now a.first a.last p.3 p.4 p.1 p.2)
+    let rows = rows-within a.shape.bytes a.shape.rows a.raw.now a.first a.last p.1 p.2 a.shape.narrow a.shape.low in
+    omega arith
 
 pub overflow_cast-result-2 : goal.overflow_cast-result-2
 overflow_cast-result-2 c =
     let a = c.args in
     let p = c.requires in
-    omega (arith, rows-within a.b a.h a.raw.now a.first a.last p.3 p.4 p.1 p.2)
+    let rows = rows-within a.shape.bytes a.shape.rows a.raw.now a.first a.last p.1 p.2 a.shape.narrow a.shape.low in
+    omega arith
 
 pub returns : goal.returns
 returns c =
     let a = c.args in
     let p = c.requires in
-    counted a.b a.h a.raw.now a.first a.last p.3 p.4 c.black_from.result c.black_from.ensures
+    counted a.shape.bytes a.shape.rows a.raw.now a.first a.last p.1 p.2 a.shape.narrow a.shape.low p.0 c.black_in.result c.black_in.ensures

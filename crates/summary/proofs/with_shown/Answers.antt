@@ -1,7 +1,6 @@
 -- The summary that is read is stored.
 -- Assumes nothing.
 use mathlib.Core.Path.{ap, ◌∙◌}
-use borrow.Author.Rules.{rules}
 use lib.ListN.{set}
 use Rattle.summary.proofs.with_shown.Goals as goal
 

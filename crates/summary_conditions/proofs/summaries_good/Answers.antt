@@ -1,32 +1,14 @@
-use mathlib.Core.Bool.{not}
-use mathlib.Core.Path.{ap}
-use mathlib.Core.Path.{◌≡◌, refl}
-use mathlib.Core.Bool.{true}
-use Prim.Native.Nat.{◌+◌, ◌-◌, ◌≤◌}
-use native.Mathlib.Omega.{arith}
-use borrow.Author.Rules.{rules}
-use Rattle.lists.specs.Rules.{all_below}
-use Rattle.lists.proofs.Rules.{refused, passed}
-use Rattle.counting.proofs.Below.{all_more}
-use Rattle.summary.proofs.Conditions.{good_at, one_bad, all_good}
+-- Each summary up to that of slot n is asked.
+-- Assumes nothing.
+use Rattle.std.proofs.Common.{rules, tests, ◌+◌, ◌∙◌, take, arith}
+use Rattle.std.proofs.lemmas.Iterator.{YieldsList-from_slice}
+use Rattle.std.proofs.lemmas.Iterator.Search.{all_from_yields_List}
+use Rattle.summary.specs.Conditions.{summary_good}
+use Rattle.summary.proofs.Conditions.{all_good}
 use Rattle.summary_conditions.proofs.summaries_good.Goals as goal
-
-pub loop-slot-init : goal.loop-slot-init
-loop-slot-init c = (omega arith, refl)
-
-pub returns-then-not-summary_good : goal.returns-then-not-summary_good
-returns-then-not-summary_good c =
-    let a = c.args in
-    let bad = refused c.summary_good.ensures (ap not c.if-not-summary_good.true) in
-    one_bad a.b a.h a.summaries a.n c.loop-slot.slot (omega arith) bad
-
-pub loop-slot-preserved : goal.loop-slot-preserved
-loop-slot-preserved c =
-    let a = c.args in
-    let l = c.loop-slot in
-    (omega arith, all_more l.slot (good_at a.b a.h a.summaries) (passed c.summary_good.ensures (ap not c.if-not-summary_good.false)) l.invariant.1)
 
 pub returns : goal.returns
 returns c =
     let a = c.args in
-    all_good a.b a.h a.summaries a.n c.loop-slot.slot (omega arith) c.loop-slot.invariant.1
+    all_from_yields_List (summary_good a.shape.bytes a.shape.rows) _ _ _ c.all.ensures.ran (YieldsList-from_slice (take (a.n + 1) a.summaries) cc) (λ x b q k. search (rules, tests))
+    ∙ all_good a.shape.bytes a.shape.rows a.summaries a.n (omega arith)

@@ -1,25 +1,15 @@
--- `abandon`, by its number. Assumes nothing.
+-- `abandon`, by what was found. Assumes nothing.
 use mathlib.Core.Path.{refl}
 use lib.ListN.{length}
-use Rattle.store.specs.Refusals.{abandon_own}
-use Rattle.store.proofs.Numbers.{after_cases}
-use Rattle.board.specs.State.{store_cases}
-use Rattle.board.proofs.Replies.{abandon-refused, abandon-accepted}
-use borrow.Author.Rules.{rules}
+use Rattle.board.proofs.Replies.{some_refused, abandon-refused, abandon-accepted}
 use Rattle.board.proofs.State.abandon.Goals as goal
 
-pub returns-then-number-ne0 : goal.returns-then-number-ne0
-returns-then-number-ne0 c =
+pub returns-in-Ok : goal.returns-in-Ok
+returns-in-Ok c =
     let a = c.args in
-    let s = a.self in
-    let m = length a.memory.now in
-    let is = after_cases (store_cases s m) (abandon_own s.store) refl c.check-checked.ensures.number_is c.abandon_number-number.ensures in
-    search (rules, abandon-refused s m is c.if-number-ne0.true)
+    rw c.accept.ensures (abandon-accepted a.self (length a.memory.now) c.in-Ok.ensures c.with_phase.ensures refl refl)
 
-pub returns : goal.returns
-returns c =
+pub returns-in-Err : goal.returns-in-Err
+returns-in-Err c =
     let a = c.args in
-    let s = a.self in
-    let m = length a.memory.now in
-    let is = after_cases (store_cases s m) (abandon_own s.store) refl c.check-checked.ensures.number_is c.abandon_number-number.ensures in
-    search (rules, abandon-accepted s m is c.with_phase.ensures c.with_store.ensures c.if-number-ne0.false)
+    rw c.refuse.ensures (abandon-refused a.self (length a.memory.now) c.in-Err.ensures (some_refused c.in-Err.refusal))

@@ -1,28 +1,24 @@
--- `cancel_fill`, by its numbers. Assumes nothing.
+-- `cancel_fill`, by what was found. Assumes nothing.
 use mathlib.Core.Path.{refl}
-use Rattle.board.proofs.Tests.{slot_still, fill_slot}
-use Rattle.board.proofs.Replies.{cancel_refused, cancel_replied}
 use borrow.Author.Rules.{rules}
+use Rattle.board.proofs.Tests.{slot_still, fill_slot}
+use Rattle.board.proofs.Replies.{some_refused, cancel_refused, cancel_replied}
 use Rattle.board.proofs.State.cancel_fill.Goals as goal
 
-pub returns-then-number-ne0 : goal.returns-then-number-ne0
-returns-then-number-ne0 c =
+pub returns-in-Err : goal.returns-in-Err
+returns-in-Err c =
     let a = c.args in
-    search (rules, cancel_refused a.self a.memory.now c.check_fill-checked.ensures.number_is c.if-number-ne0.true)
+    rw c.refuse.ensures
+    (search (rules, cancel_refused a.self a.memory.now c.in-Err.ensures.number_is (some_refused c.in-Err.refusal)))
 
 pub cancel_slot-fed-requires : goal.cancel_slot-fed-requires
-cancel_slot-fed-requires c =
-    let a = c.args in
-    fill_slot a.self _ c.check_fill-checked.ensures c.if-number-ne0.false
+cancel_slot-fed-requires c = fill_slot c.args.self _ c.in-Ok.plan c.in-Ok.ensures
 
 pub reply_fed-requires : goal.reply_fed-requires
-reply_fed-requires c =
-    let a = c.args in
-    slot_still (fill_slot a.self _ c.check_fill-checked.ensures c.if-number-ne0.false) (search rules)
+reply_fed-requires c = slot_still (fill_slot c.args.self _ c.in-Ok.plan c.in-Ok.ensures) (search rules)
 
 pub returns : goal.returns
 returns c =
     let a = c.args in
-    let found = c.check_fill-checked.ensures in
-    let zero = c.if-number-ne0.false in
-    search (rules, cancel_replied a.self a.memory.now found.number_is zero (found.plan zero).shape_is c.reply_fed.ensures refl c.cancel_slot-fed.ensures)
+    let found = c.in-Ok.ensures in
+    search (rules, cancel_replied a.self a.memory.now found.number_is refl found.plan.shape_is c.reply_fed.ensures refl c.cancel_slot-fed.ensures)

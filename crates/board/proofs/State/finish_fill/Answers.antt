@@ -1,28 +1,24 @@
--- `finish_fill`, by its numbers. Assumes nothing.
+-- `finish_fill`, by what was found. Assumes nothing.
 use mathlib.Core.Path.{refl}
-use Rattle.board.proofs.Tests.{slot_still, fill_slot}
-use Rattle.board.proofs.Replies.{finish_refused, finish_replied}
 use borrow.Author.Rules.{rules}
+use Rattle.board.proofs.Tests.{slot_still, fill_slot}
+use Rattle.board.proofs.Replies.{some_refused, finish_refused, finish_replied}
 use Rattle.board.proofs.State.finish_fill.Goals as goal
 
-pub returns-then-number-ne0 : goal.returns-then-number-ne0
-returns-then-number-ne0 c =
+pub returns-in-Err : goal.returns-in-Err
+returns-in-Err c =
     let a = c.args in
-    search (rules, finish_refused a.self a.memory.now c.check_fill-checked.ensures.number_is c.if-number-ne0.true)
+    rw c.refuse.ensures
+    (search (rules, finish_refused a.self a.memory.now c.in-Err.ensures.number_is (some_refused c.in-Err.refusal)))
 
 pub finish_slot-fed-requires : goal.finish_slot-fed-requires
-finish_slot-fed-requires c =
-    let a = c.args in
-    fill_slot a.self _ c.check_fill-checked.ensures c.if-number-ne0.false
+finish_slot-fed-requires c = fill_slot c.args.self _ c.in-Ok.plan c.in-Ok.ensures
 
 pub reply_fed-requires : goal.reply_fed-requires
-reply_fed-requires c =
-    let a = c.args in
-    slot_still (fill_slot a.self _ c.check_fill-checked.ensures c.if-number-ne0.false) (search rules)
+reply_fed-requires c = slot_still (fill_slot c.args.self _ c.in-Ok.plan c.in-Ok.ensures) (search rules)
 
 pub returns : goal.returns
 returns c =
     let a = c.args in
-    let found = c.check_fill-checked.ensures in
-    let zero = c.if-number-ne0.false in
-    search (rules, finish_replied a.self a.memory.now found.number_is zero (found.plan zero).shape_is c.reply_fed.ensures refl c.finish_slot-fed.ensures)
+    let found = c.in-Ok.ensures in
+    search (rules, finish_replied a.self a.memory.now found.number_is refl found.plan.shape_is c.reply_fed.ensures refl c.finish_slot-fed.ensures)

@@ -2,19 +2,17 @@
 use mathlib.Core.Bool.{not}
 use mathlib.Core.Path.{ap}
 use borrow.Author.Tests.{not-false, not-true}
+use Rattle.panel.specs.Facts.{sizes}
 use Rattle.board.proofs.Replies.{fed_unwritten, fed_written}
 use Rattle.board.proofs.State.reply_fed.Goals as goal
 
 pub returns-then-not-wrote : goal.returns-then-not-wrote
 returns-then-not-wrote c =
     let a = c.args in
-    fed_unwritten a.shape a.self a.memory.now a.fed c.with_fill-store.ensures a.wrote (not-true _ (ap not c.if-not-wrote.true)) c.with_store.ensures
-
-pub count_slot-fresh-requires : goal.count_slot-fresh-requires
-count_slot-fresh-requires c = c.requires
+    fed_unwritten (sizes a.shape) a.self a.memory.now a.fed c.with_fill-filled.ensures a.wrote (not-true _ (ap not c.if-not-wrote.true)) c.with_store.ensures
 
 pub returns : goal.returns
 returns c =
     let a = c.args in
-    fed_written a.shape a.self a.memory.now a.fed c.with_fill-store.ensures a.wrote (not-false _ (ap not c.if-not-wrote.false)) c.count_slot-fresh.ensures
+    fed_written (sizes a.shape) a.self a.memory.now a.fed c.with_fill-filled.ensures a.wrote (not-false _ (ap not c.if-not-wrote.false)) c.count_slot-counts.ensures
     c.with_summaries.ensures c.with_store-2.ensures

@@ -1,25 +1,15 @@
--- `start`, by its number. Assumes nothing.
+-- `start`, by what was found. Assumes nothing.
 use mathlib.Core.Path.{refl}
 use lib.ListN.{length}
-use Rattle.store.specs.Refusals.{start_own}
-use Rattle.store.proofs.Numbers.{after_cases}
-use Rattle.board.specs.State.{store_cases}
-use Rattle.board.proofs.Replies.{start-refused, start-accepted}
-use borrow.Author.Rules.{rules}
+use Rattle.board.proofs.Replies.{some_refused, start-refused, start-accepted}
 use Rattle.board.proofs.State.start.Goals as goal
 
-pub returns-then-number-ne0 : goal.returns-then-number-ne0
-returns-then-number-ne0 c =
+pub returns-in-Ok : goal.returns-in-Ok
+returns-in-Ok c =
     let a = c.args in
-    let s = a.self in
-    let m = length a.memory.now in
-    let is = after_cases (store_cases s m) (start_own s.store a.slot) refl c.check-checked.ensures.number_is c.start_number-number.ensures in
-    search (rules, start-refused s m a.slot a.tick is c.if-number-ne0.true)
+    rw c.accept.ensures (start-accepted a.self (length a.memory.now) a.slot a.tick c.in-Ok.ensures c.begin.ensures c.with_phase.ensures refl refl)
 
-pub returns : goal.returns
-returns c =
+pub returns-in-Err : goal.returns-in-Err
+returns-in-Err c =
     let a = c.args in
-    let s = a.self in
-    let m = length a.memory.now in
-    let is = after_cases (store_cases s m) (start_own s.store a.slot) refl c.check-checked.ensures.number_is c.start_number-number.ensures in
-    search (rules, start-accepted s m a.slot a.tick is c.begin.ensures c.with_phase.ensures c.with_store.ensures c.if-number-ne0.false)
+    rw c.refuse.ensures (start-refused a.self (length a.memory.now) a.slot a.tick c.in-Err.ensures (some_refused c.in-Err.refusal))

@@ -1,23 +1,21 @@
--- `write_bitmap`, by its number. Assumes nothing.
-use Rattle.board.proofs.Tests.{write_slot}
-use Rattle.board.proofs.Replies.{write_refused, write_accepted}
+-- `write_bitmap`, by what was found. Assumes nothing.
+use mathlib.Core.Path.{refl}
 use borrow.Author.Rules.{rules}
+use Rattle.board.proofs.Tests.{write_slot}
+use Rattle.board.proofs.Replies.{some_refused, write_refused, write_accepted}
 use Rattle.board.proofs.State.write_bitmap.Goals as goal
 
-pub returns-then-number-ne0 : goal.returns-then-number-ne0
-returns-then-number-ne0 c =
+pub returns-in-Err : goal.returns-in-Err
+returns-in-Err c =
     let a = c.args in
-    search (rules, write_refused a.self a.memory.now a.slot a.out.now c.check_write-checked.ensures.number_is c.if-number-ne0.true)
+    rw c.refuse.ensures
+    (search (rules, write_refused a.self a.memory.now a.slot a.out.now c.in-Err.ensures.number_is (some_refused c.in-Err.refusal)))
 
 pub write_slot-requires : goal.write_slot-requires
-write_slot-requires c =
-    let a = c.args in
-    write_slot a.self _ a.slot _ c.check_write-checked.ensures c.if-number-ne0.false
+write_slot-requires c = write_slot c.args.self _ c.in-Ok.plan c.args.slot _ c.in-Ok.ensures
 
 pub returns : goal.returns
 returns c =
     let a = c.args in
-    let found = c.check_write-checked.ensures in
-    let zero = c.if-number-ne0.false in
-    search
-    (rules, write_accepted a.self a.memory.now a.slot a.out.now found.number_is zero (found.plan zero).shape_is c.write_slot.ensures)
+    let found = c.in-Ok.ensures in
+    search (rules, write_accepted a.self a.memory.now a.slot a.out.now found.number_is refl found.plan.shape_is c.write_slot.ensures)

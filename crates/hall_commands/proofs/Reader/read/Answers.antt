@@ -1,57 +1,30 @@
--- `read`, by its number.
+-- The refusals in their order, or the data at the pointer.
 -- Assumes nothing.
 use native.Mathlib.Omega.{arith}
-use borrow.Author.Rules.{rules}
-use lib.ListN.{length-drop}
-use Rattle.hall_commands.proofs.Reading.{read_refused, read_long, read_room, read_fits, read_taken}
+use Rattle.hall_commands.proofs.Reading.{upload_long, lent_length, other_slot, other_command, overrun, read_taken}
 use Rattle.hall_commands.proofs.Reader.read.Goals as goal
+use Rattle.hall_commands.proofs.Reader.read.Goals.{then-memory-self-via-then-memory-self, then-memory-self-via-else-memory-self+then-memory-self-2}
 
-pub returns-then-number-ne0 : goal.returns-then-number-ne0
-returns-then-number-ne0 c =
-    let a = c.args in
-    let command = a.command.now in
-    let memory = a.memory.now in
-    search (rules, read_refused a.self command memory c.read_number-number.ensures c.if-number-ne0.true)
+pub returns-then-self-gt255 : goal.returns-then-self-gt255
+returns-then-self-gt255 c = other_slot c.args.self.now c.args.command.now c.args.memory.now c.if-self-gt255.true
 
-pub overflow_sub-n : goal.overflow_sub-n
-overflow_sub-n c =
+pub returns-then-not-is_upload : goal.returns-then-not-is_upload
+returns-then-not-is_upload c =
     let a = c.args in
-    let command = a.command.now in
-    let memory = a.memory.now in
-    omega (arith, read_long a.self command memory c.read_number-number.ensures c.if-number-ne0.false)
+    other_command a.self.now a.command.now a.memory.now c.if-self-gt255.false (cc)
 
-pub slice_bounds-put_at-count : goal.slice_bounds-put_at-count
-slice_bounds-put_at-count c =
-    let a = c.args in
-    let command = a.command.now in
-    let memory = a.memory.now in
-    omega (arith, read_long a.self command memory c.read_number-number.ensures c.if-number-ne0.false)
+pub slice_bounds-data-count : goal.slice_bounds-data-count
+slice_bounds-data-count c = upload_long c.args.self.now.slot c.args.command.now (cc)
 
-pub slice_bounds-put_at-start : goal.slice_bounds-put_at-start
-slice_bounds-put_at-start c =
-    let a = c.args in
-    let command = a.command.now in
-    let memory = a.memory.now in
-    omega (arith, read_long a.self command memory c.read_number-number.ensures c.if-number-ne0.false)
+pub slice_bounds-data-start : goal.slice_bounds-data-start
+slice_bounds-data-start c = omega (arith, upload_long c.args.self.now.slot c.args.command.now (cc))
 
-pub put_at-requires : goal.put_at-requires
-put_at-requires c =
+pub returns-then-memory-self : goal.returns-then-memory-self
+returns-then-memory-self c =
     let a = c.args in
-    let command = a.command.now in
-    let memory = a.memory.now in
-    search (rules, read_fits a.self command memory c.read_number-number.ensures c.if-number-ne0.false)
-
-pub overflow_add-result : goal.overflow_add-result
-overflow_add-result c =
-    let a = c.args in
-    let command = a.command.now in
-    let memory = a.memory.now in
-    let room = read_room a.self command memory c.read_number-number.ensures c.if-number-ne0.false in
-    omega (arith, length-drop 4 command, room)
+    overrun a.self.now a.command.now a.memory.now c.if-self-gt255.false (cc) (elim c.then-memory-self.branch [ then-memory-self-via-then-memory-self w ↦ omega arith | then-memory-self-via-else-memory-self+then-memory-self-2 w ↦ omega (arith, lent_length) ])
 
 pub returns : goal.returns
 returns c =
     let a = c.args in
-    let command = a.command.now in
-    let memory = a.memory.now in
-    search (rules, read_taken a.self command memory c.read_number-number.ensures c.if-number-ne0.false c.put_at.ensures)
+    read_taken a.self.now a.command.now a.memory.now c.if-self-gt255.false (cc) (omega (arith, lent_length)) c.put_at.ensures

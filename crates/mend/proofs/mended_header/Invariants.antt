@@ -1,0 +1,13 @@
+-- The file's header is copied; then each turn mends one field more.
+-- Assumes nothing.
+use mathlib.Core.Path.{◌≡◌}
+use lib.ListN.{length, take}
+use Rattle.bitmap.specs.Header.{header_length, header_fields}
+use Rattle.mend.specs.Mending.{mend_fields}
+use Rattle.mend.proofs.mended_header.Given as goal
+
+abbrev pub invariant-loop-field : goal.invariant-loop-field
+invariant-loop-field l =
+    let s = l.fn.shape in
+    (length l.header ≡ header_length)
+    × (l.header ≡ mend_fields l.file (take l.field-index (header_fields s.bytes s.rows s.stride)) (take header_length l.file))

@@ -1,6 +1,0 @@
--- `replay::script::begins` is safe and ends: the measure is what is left of the word.
-use Rattle.std.proofs.Common.{◌-◌, length}
-use Rattle.replay.proofs.script.begins.Given as goal
-
-abbrev pub decreases-loop-i : goal.decreases-loop-i
-decreases-loop-i l = length l.word - l.i

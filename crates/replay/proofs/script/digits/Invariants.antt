@@ -1,6 +1,0 @@
--- `replay::script::digits` is safe and ends. The measure is what is left of the line.
-use Rattle.std.proofs.Common.{◌-◌, length}
-use Rattle.replay.proofs.script.digits.Given as goal
-
-abbrev pub decreases-loop-i : goal.decreases-loop-i
-decreases-loop-i l = length l.line - l.i

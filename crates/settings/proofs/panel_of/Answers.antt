@@ -1,6 +1,0 @@
--- `panel_of` meets its contract: a byte fits. Assumes nothing.
-use native.Mathlib.Omega.{arith}
-use Rattle.settings.proofs.panel_of.Goals as goal
-
-pub overflow_cast-result : goal.overflow_cast-result
-overflow_cast-result c = omega (arith, c.type_inv.file 1)
