@@ -14,8 +14,16 @@ use refusal::Refusal;
 struct ByDots;
 
 impl Painter for ByDots {
-    fn paint_row(shape: Shape, raw: &mut [u8], x: usize, y: usize, width: usize, row: &[u8]) {
-        picture::paint_dots(shape, raw, x, y, width, row, 0);
+    fn paint_row(
+        shape: Shape,
+        raw: &mut [u8],
+        x: usize,
+        y: usize,
+        j: usize,
+        width: usize,
+        row: &[u8],
+    ) {
+        picture::paint_dots(shape.bytes, shape.rows, raw, x, y + j, width, row, 0);
     }
 }
 

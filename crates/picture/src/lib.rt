@@ -1,4 +1,4 @@
-// Painting on the slots of the lent memory. A slot holds the rows of a panel's shape, one after the other.
+// Painting on the slots of the lent memory. A slot has h rows of b bytes, one after the other, mostly those of a panel's shape.
 // A slot is a part of memory that the caller lends, so each contract says how long it is: a type that holds the lent part would have to
 // promise it back at each call, which is no plainer. The loops of the painters go by index, since the number of a dot, a byte or a row is
 // asked for too.
@@ -50,14 +50,13 @@ fn get_dot(row: &[u8], x: usize) -> u8
     row[x / 8] >> (7 - x % 8) & 1
 }
 
-// Sets dot x of row y of a slot, by one write for either value: a branch on the dot costs twice the time.
+// Sets dot x of row y of a slot of h rows of b bytes, by one write for either value: a branch on the dot costs twice the time.
 #[tactic(auto, using(crate::proofs::Slots::dot_place))]
-fn set_dot(shape: Shape, raw: &mut [u8], x: usize, y: usize, v: u8)
-    requires { (length raw.old ≡ shape.rows * shape.bytes) × (x < 8 * shape.bytes)
-        × (y < shape.rows) × (v < 2) }
-    ensures { raw.new ≡ painted shape.bytes shape.rows raw.old x y 1 1 (λ _ _. v) }
+fn set_dot(b: usize, h: usize, raw: &mut [u8], x: usize, y: usize, v: u8)
+    requires { (length raw.old ≡ h * b) × (x < 8 * b) × (y < h) × (v < 2) × (b ≤ 33) }
+    ensures { raw.new ≡ painted b h raw.old x y 1 1 (λ _ _. v) }
 {
-    let at = y * shape.bytes + x / 8;
+    let at = y * b + x / 8;
     let mark = 128u8 >> (x % 8);
     raw[at] = if v == 1 {
         raw[at] | mark
@@ -67,14 +66,23 @@ fn set_dot(shape: Shape, raw: &mut [u8], x: usize, y: usize, v: u8)
 }
 
 // Paints n dots of a row, from its dot i on, on a slot from dot x of row y on: each dot by itself.
-pub fn paint_dots(shape: Shape, raw: &mut [u8], x: usize, y: usize, n: usize, row: &[u8], i: usize)
-    requires { (length raw.old ≡ shape.rows * shape.bytes) × (x + n ≤ 8 * shape.bytes) × (y < shape.rows)
-        × (i + n ≤ 8 * length row.now) × (i ≤ 264) }
+pub fn paint_dots(
+    b: usize,
+    h: usize,
+    raw: &mut [u8],
+    x: usize,
+    y: usize,
+    n: usize,
+    row: &[u8],
+    i: usize,
+)
+    requires { (length raw.old ≡ h * b) × (x + n ≤ 8 * b) × (y < h) × (i + n ≤ 8 * length row.now)
+        × (b ≤ 33) × (i ≤ 264) }
     ensures { raw.new
-        ≡ painted shape.bytes shape.rows raw.old x y n 1 (λ u _. row_dot row.now (i + u)) }
+        ≡ painted b h raw.old x y n 1 (λ u _. row_dot row.now (i + u)) }
 {
     for k in 0..n {
-        set_dot(shape, raw, x + k, y, get_dot(row, i + k));
+        set_dot(b, h, raw, x + k, y, get_dot(row, i + k));
     }
 }
 
@@ -85,7 +93,7 @@ fn paint_edge(shape: Shape, raw: &mut [u8], x: usize, y: usize, n: usize, row: &
     ensures { raw.new
         ≡ painted shape.bytes shape.rows raw.old x y n 1 (λ u _. row_dot row.now (i + u)) }
 {
-    paint_dots(shape, raw, x, y, n, row, i);
+    paint_dots(shape.bytes, shape.rows, raw, x, y, n, row, i);
 }
 
 // The byte of the eight dots of a row from dot i on, which lie in one byte of it or run from one into the next.
@@ -117,12 +125,20 @@ fn paint_bytes(shape: Shape, raw: &mut [u8], x: usize, y: usize, n: usize, row: 
 
 // A way to paint a row.
 pub trait Painter {
-    // Paints the first `width` dots of a row on a slot from dot x of row y on.
-    fn paint_row(shape: Shape, raw: &mut [u8], x: usize, y: usize, width: usize, row: &[u8])
+    // Paints the first `width` dots of row j of a region whose corner is dot x of row y of a slot.
+    fn paint_row(
+        shape: Shape,
+        raw: &mut [u8],
+        x: usize,
+        y: usize,
+        j: usize,
+        width: usize,
+        row: &[u8],
+    )
         requires { (length raw.old ≡ shape.rows * shape.bytes) × (x + width ≤ 8 * shape.bytes)
-            × (y < shape.rows) × (width ≤ 8 * length row.now) }
+            × (y + j < shape.rows) × (width ≤ 8 * length row.now) }
         ensures { raw.new
-            ≡ painted shape.bytes shape.rows raw.old x y width 1 (λ u _. row_dot row.now u) };
+            ≡ painted shape.bytes shape.rows raw.old x (y + j) width 1 (λ u _. row_dot row.now u) };
 }
 
 // By whole bytes.
@@ -130,7 +146,16 @@ pub struct ByBytes;
 
 impl Painter for ByBytes {
     // Bytes of the slot that the dots fill are written whole, and only the ragged edges before and after them go by dots.
-    fn paint_row(shape: Shape, raw: &mut [u8], x: usize, y: usize, width: usize, row: &[u8]) {
+    fn paint_row(
+        shape: Shape,
+        raw: &mut [u8],
+        x: usize,
+        y: usize,
+        j: usize,
+        width: usize,
+        row: &[u8],
+    ) {
+        let y = y + j;
         let left = (8 - x % 8) % 8;
         if width < left + 8 {
             paint_edge(shape, raw, x, y, width, row, 0);
@@ -161,7 +186,7 @@ fn paint_rows<P: Painter>(shape: Shape, raw: &mut [u8], region: Region, payload:
     // by index: the row's number is asked for too, and std has no lemma on what `chunks_exact` yields
     for j in 0..region.height as usize {
         let end = (j + 1) * bytes;
-        P::paint_row(shape, raw, x, y + j, width, &payload[end - bytes..end]);
+        P::paint_row(shape, raw, x, y, j, width, &payload[end - bytes..end]);
     }
 }
 
@@ -189,7 +214,7 @@ pub fn put_row(shape: Shape, raw: &mut [u8], y: usize, rows: &[u8], at: usize)
         (picture_of shape.bytes shape.rows raw.old)) }
 {
     let end = at + shape.bytes;
-    ByBytes::paint_row(shape, raw, 0, y, 8 * shape.bytes, &rows[at..end]);
+    ByBytes::paint_row(shape, raw, 0, y, 0, 8 * shape.bytes, &rows[at..end]);
 }
 
 // Copies `bytes` into `out`, from index `at` on, with each dot turned over.

@@ -1,4 +1,4 @@
-// The summary of a slot: how many dots are black, and the first and last row with one.
+// The summary of a slot: how many dots are black, and the first and last row with one. A slot has h rows of b bytes.
 #![tactic(auto)]
 
 ghost use Rattle.std.specs.Prelude.{◌≡◌, ◌+◌, ◌*◌, ◌≤◌, eqb, length, get_or, set, replicate, sum_by, Some};
@@ -69,16 +69,16 @@ fn all_white(bytes: &[u8]) -> bool
 
 // The first row with a black dot. A nested scan over rows and bytes, left by a labelled break with the row found, is the form that the
 // project's rules ask for here. A white row is passed as a whole, many bytes at a time.
-fn first_row(shape: Shape, raw: &[u8]) -> Option<usize>
-    requires { length raw.now ≡ shape.rows * shape.bytes }
-    ensures { result ≡ first_black shape.bytes shape.rows (picture_of shape.bytes shape.rows raw.now) }
+fn first_row(b: usize, h: usize, raw: &[u8]) -> Option<usize>
+    requires { (length raw.now ≡ h * b) × (b ≤ 33) × (h ≤ 176) }
+    ensures { result ≡ first_black b h (picture_of b h raw.now) }
 {
     let mut y: usize = 0;
     'rows: loop {
-        if y == shape.rows {
+        if y == h {
             break 'rows None;
         }
-        let row = &raw[y * shape.bytes..(y + 1) * shape.bytes];
+        let row = &raw[y * b..(y + 1) * b];
         if !all_white(row) {
             for byte in row {
                 if *byte != 0xFF {
@@ -91,17 +91,17 @@ fn first_row(shape: Shape, raw: &[u8]) -> Option<usize>
 }
 
 // The last row with a black dot, found from the bottom up in the same way.
-fn last_row(shape: Shape, raw: &[u8]) -> Option<usize>
-    requires { length raw.now ≡ shape.rows * shape.bytes }
-    ensures { result ≡ last_black shape.bytes shape.rows (picture_of shape.bytes shape.rows raw.now) }
+fn last_row(b: usize, h: usize, raw: &[u8]) -> Option<usize>
+    requires { (length raw.now ≡ h * b) × (b ≤ 33) × (h ≤ 176) }
+    ensures { result ≡ last_black b h (picture_of b h raw.now) }
 {
-    let mut y = shape.rows;
+    let mut y = h;
     'rows: loop {
         if y == 0 {
             break 'rows None;
         }
         y -= 1;
-        let row = &raw[y * shape.bytes..(y + 1) * shape.bytes];
+        let row = &raw[y * b..(y + 1) * b];
         if !all_white(row) {
             for byte in row {
                 if *byte != 0xFF {
@@ -124,13 +124,13 @@ pub fn empty_summary() -> Summary
 
 // The summary of the picture that a slot's bytes hold, where the first and the last row with a black dot are known. Rows outside these
 // are not counted.
-fn summary_between(shape: Shape, raw: &[u8], first: usize, last: usize) -> Summary
-    requires { (length raw.now ≡ shape.rows * shape.bytes)
-        × (first_black shape.bytes shape.rows (picture_of shape.bytes shape.rows raw.now) ≡ Some first)
-        × (last_black shape.bytes shape.rows (picture_of shape.bytes shape.rows raw.now) ≡ Some last) }
-    ensures { result ≡ summary_of shape.bytes shape.rows (picture_of shape.bytes shape.rows raw.now) }
+fn summary_between(b: usize, h: usize, raw: &[u8], first: usize, last: usize) -> Summary
+    requires { (length raw.now ≡ h * b) × (b ≤ 33) × (h ≤ 176)
+        × (first_black b h (picture_of b h raw.now) ≡ Some first)
+        × (last_black b h (picture_of b h raw.now) ≡ Some last) }
+    ensures { result ≡ summary_of b h (picture_of b h raw.now) }
 {
-    let rows = &raw[first * shape.bytes..(last + 1) * shape.bytes];
+    let rows = &raw[first * b..(last + 1) * b];
     Summary {
         black: black_in(rows),
         span: Some(Span {
@@ -141,17 +141,17 @@ fn summary_between(shape: Shape, raw: &[u8], first: usize, last: usize) -> Summa
 }
 
 // The summary of the picture that a slot's bytes hold.
-pub fn summary_of(shape: Shape, raw: &[u8]) -> Summary
-    requires { length raw.now ≡ shape.rows * shape.bytes }
-    ensures { result ≡ summary_of shape.bytes shape.rows (picture_of shape.bytes shape.rows raw.now) }
+pub fn summary_of(b: usize, h: usize, raw: &[u8]) -> Summary
+    requires { (length raw.now ≡ h * b) × (b ≤ 33) × (h ≤ 176) }
+    ensures { result ≡ summary_of b h (picture_of b h raw.now) }
 {
-    let Some(first) = first_row(shape, raw) else {
+    let Some(first) = first_row(b, h, raw) else {
         return empty_summary();
     };
-    let Some(last) = last_row(shape, raw) else {
+    let Some(last) = last_row(b, h, raw) else {
         return empty_summary();
     };
-    summary_between(shape, raw, first, last)
+    summary_between(b, h, raw, first, last)
 }
 
 // A fresh count of a slot of the memory: what a call that writes the slot leaves at its place.
@@ -161,7 +161,7 @@ pub fn fresh_count(shape: Shape, memory: &[u8], slot: usize) -> Summary
 {
     let size = shape.rows * shape.bytes;
     let start = slot * size;
-    summary_of(shape, &memory[start..start + size])
+    summary_of(shape.bytes, shape.rows, &memory[start..start + size])
 }
 
 // ---- the places of a store's slots

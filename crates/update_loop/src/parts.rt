@@ -50,7 +50,7 @@ pub extern "C" fn picture_count(panel: u32, picture: &[u8]) -> u32
     ensures { result ≡ picture_counted panel picture.now }
 {
     match picture_shape(panel, picture.len()) {
-        Some(shape) => summary::summary_of(shape, picture).black,
+        Some(shape) => summary::summary_of(shape.bytes, shape.rows, picture).black,
         None => 0,
     }
 }

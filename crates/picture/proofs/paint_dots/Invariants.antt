@@ -8,4 +8,4 @@ use Rattle.picture.specs.Slots.{painted}
 use Rattle.picture.proofs.paint_dots.Given as goal
 
 abbrev pub invariant-loop-k : goal.invariant-loop-k
-invariant-loop-k l = (length l.raw ≡ l.shape.rows * l.shape.bytes) × (l.raw ≡ painted l.shape.bytes l.shape.rows l.initial.raw l.x l.y l.k 1 (λ u _. row_dot l.row (l.i + u)))
+invariant-loop-k l = (length l.raw ≡ l.h * l.b) × (l.raw ≡ painted l.b l.h l.initial.raw l.x l.y l.k 1 (λ u _. row_dot l.row (l.i + u)))

@@ -12,11 +12,11 @@ use Rattle.summary.proofs.first_row.Given as goal
 
 abbrev pub invariant-rows : goal.invariant-rows
 invariant-rows l =
-    (l.y ≤ l.shape.rows)
-    × ((k : ℕ) → k < l.y → has_black l.shape.bytes (picture_of l.shape.bytes l.shape.rows l.raw) k ≡ false)
+    (l.y ≤ l.h)
+    × ((k : ℕ) → k < l.y → has_black l.b (picture_of l.b l.h l.raw) k ≡ false)
 
 abbrev pub decreases-rows : goal.decreases-rows
-decreases-rows l = l.shape.rows - l.y
+decreases-rows l = l.h - l.y
 
 abbrev pub invariant-loop-byte : goal.invariant-loop-byte
 invariant-loop-byte l = sum_by black_in_byte (take l.byte-index l.row) ≡ 0

@@ -15,29 +15,29 @@ use Rattle.summary.proofs.last_row.Goals as goal
 
 pub loop-byte-preserved : goal.loop-byte-preserved
 loop-byte-preserved c =
-    let b = c.args.shape.bytes in
+    let b = c.args.b in
     let y : ℕ = c.rows.y - 1 in
     white_more (take ((y + 1) * b - y * b) (drop (y * b) c.args.raw.now)) c.loop-byte.byte-index (omega arith) c.loop-byte.invariant c.if-byte.false
 
 pub rows-preserved : goal.rows-preserved
 rows-preserved c =
-    let b = c.args.shape.bytes in
-    let h = c.args.shape.rows in
+    let b = c.args.b in
+    let h = c.args.h in
     let y : ℕ = c.rows.y - 1 in
-    let white = row_white b h c.args.raw.now y (omega arith) c.requires
+    let white = row_white b h c.args.raw.now y (omega arith) c.requires.0
     (eqb-true (sum_by black_in_byte (take ((y + 1) * b - y * b) (drop (y * b) c.args.raw.now))) 0 (sym c.if-not-all_white.ensures)) in
     (omega arith, fails_before (has_black b (picture_of b h c.args.raw.now)) h y c.rows.y (omega arith) c.rows.invariant.1 white)
 
 pub returns-then-y-eq0 : goal.returns-then-y-eq0
 returns-then-y-eq0 c =
-    let b = c.args.shape.bytes in
-    let h = c.args.shape.rows in
+    let b = c.args.b in
+    let h = c.args.h in
     last_none b h (picture_of b h c.args.raw.now) (λ k l. c.rows.invariant.1 k (omega arith) l)
 
 pub returns-then-byte : goal.returns-then-byte
 returns-then-byte c =
-    let b = c.args.shape.bytes in
-    let h = c.args.shape.rows in
+    let b = c.args.b in
+    let h = c.args.h in
     let y : ℕ = c.rows.y - 1 in
-    last_found b h (picture_of b h c.args.raw.now) y (omega arith) (row_black b h c.args.raw.now y (omega arith) c.requires c.if-not-all_white.ensures)
+    last_found b h (picture_of b h c.args.raw.now) y (omega arith) (row_black b h c.args.raw.now y (omega arith) c.requires.0 c.if-not-all_white.ensures)
     (λ k m. c.rows.invariant.1 k (omega arith))

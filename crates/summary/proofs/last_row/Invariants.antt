@@ -12,8 +12,8 @@ use Rattle.summary.proofs.last_row.Given as goal
 
 abbrev pub invariant-rows : goal.invariant-rows
 invariant-rows l =
-    (l.y ≤ l.shape.rows)
-    × ((k : ℕ) → l.y ≤ k → k < l.shape.rows → has_black l.shape.bytes (picture_of l.shape.bytes l.shape.rows l.raw) k ≡ false)
+    (l.y ≤ l.h)
+    × ((k : ℕ) → l.y ≤ k → k < l.h → has_black l.b (picture_of l.b l.h l.raw) k ≡ false)
 
 abbrev pub decreases-rows : goal.decreases-rows
 decreases-rows l = l.y
