@@ -3,10 +3,11 @@
 use mathlib.Core.Path.{◌≡◌, refl, sym, ap, ◌∙◌}
 use mathlib.Core.Bool.{Bool, true, false, cond, not}
 use mathlib.Core.List.{List, [], ◌∷◌, ◌++◌, append-nil}
-use Prim.Native.Nat.{ℕ, zero, suc, ◌+◌, ◌*◌, ◌≤◌, ◌<◌}
+use Prim.Native.Nat.{ℕ, zero, suc, ◌+◌, ◌-◌, ◌*◌, ◌≤◌, ◌<◌}
 use native.Mathlib.Numerals.{add-one}
 use native.Mathlib.Omega.{arith}
-use lib.ListN.{length, length-append}
+use lib.ListN.{length, set, replicate, length-append, length-replicate}
+use lib.Seq.{set_at, append_snoc}
 use Rattle.lists.specs.Rules.{all_below, Case, case}
 use Rattle.lists.proofs.Rules.{below_fails, given, taken, here, past, First, None, none, none_append}
 use borrow.Author.Tests.{lt-ltb, le-ltb}
@@ -19,9 +20,32 @@ use Rattle.panel.proofs.Panels.{each_panel, code_lt}
 use Rattle.counting.proofs.Below.{all_more}
 use Rattle.layout_rules.specs.Boxes.{box_count, list_good}
 use Rattle.layout.specs.Places.{place_of, has_dots, levels_good, size_good, sizes_good}
-use Rattle.layout.specs.Answer.{is_leaf, leaves_below, leaves_of, layout_of}
+use Rattle.layout.specs.Answer.{is_leaf, leaves_below, leaves_of, nowhere, padded, leaves_with, layout_of}
 use Rattle.layout.specs.Facts.{placed_on}
+use Rattle.layout.specs.declared.Rect.{Rect}
+use Rattle.layout.specs.declared.Leaves.{Leaves}
 use Rattle.std.specs.Prelude.{Ok, Err}
+
+-- ---- the array
+
+pub length-padded : (rects : List Rect) → length rects ≤ 64 → length (padded rects) ≡ 64
+length-padded rects h = rw (length-append, length-replicate) (omega arith)
+
+padded_more : (rects : List Rect) (r : Rect) → length rects < 64 → set (padded rects) (length rects) r ≡ padded (rects ++ (r ∷ []))
+padded_more rects r h =
+    let e : 64 - length rects ≡ suc (63 - length rects) = omega arith in
+    let l : 64 - length (rects ++ (r ∷ [])) ≡ 63 - length rects = rw length-append (omega arith) in
+    rw (e, l) (set_at rects nowhere (replicate (63 - length rects) nowhere) r (length rects) refl
+    ∙ sym (append_snoc rects r (replicate (63 - length rects) nowhere)))
+
+-- one leaf more
+abbrev pub with_leaf : (leaves : Leaves) (place : Rect) → Leaves
+with_leaf leaves place = record { count = leaves.count + 1; rects = set leaves.rects leaves.count place }
+
+leaves_more : (rects : List Rect) (r : Rect) → length rects < 64 → with_leaf (leaves_with rects) r ≡ leaves_with (rects ++ (r ∷ []))
+leaves_more rects r h =
+    let l : length (rects ++ (r ∷ [])) ≡ length rects + 1 = length-append rects (r ∷ []) in
+    rw (padded_more rects r h, l)
 
 -- ---- the leaves
 
@@ -34,11 +58,19 @@ module _ (list : List ℕ) (X Y : ℕ) where
     one true h = omega arith
     one false h = omega arith
 
-  pub leaf_more : (n : ℕ) → is_leaf list n ≡ true → leaves_below list X Y n ++ (place_of list X Y n ∷ []) ≡ leaves_below list X Y (n + 1)
-  leaf_more n t = rw (add-one n, t)
+  module _ (n : ℕ) (leaves : Leaves) (e : leaves ≡ leaves_with (leaves_below list X Y n)) where
+    -- there is a place for another leaf
+    pub room : n < 64 → ((leaves.count < 64) × (length leaves.rects ≡ 64))
+    room h =
+        let l = leaves_le n in
+        rw e (omega arith, length-padded (leaves_below list X Y n) (omega arith))
 
-  pub inner_more : (n : ℕ) → is_leaf list n ≡ false → leaves_below list X Y n ≡ leaves_below list X Y (n + 1)
-  inner_more n t = rw (add-one n, t, append-nil)
+    pub leaf_more : n < 64 → is_leaf list n ≡ true → with_leaf leaves (place_of list X Y n) ≡ leaves_with (leaves_below list X Y (n + 1))
+    leaf_more h t =
+        rw (add-one n, t, e) (leaves_more (leaves_below list X Y n) (place_of list X Y n) (omega (arith, leaves_le n)))
+
+    pub inner_more : is_leaf list n ≡ false → leaves ≡ leaves_with (leaves_below list X Y (n + 1))
+    inner_more t = rw (add-one n, t, append-nil) e
 
   pub size_more : (c : ℕ) → has_dots (place_of list X Y c) ≡ true → all_below c (size_good list X Y) ≡ true
       → all_below (c + 1) (size_good list X Y) ≡ true
@@ -49,7 +81,7 @@ module _ (list : List ℕ) (X Y : ℕ) where
   refusals = case (not (levels_good list)) 30 ∷ case (not (sizes_good list X Y)) 31 ∷ []
 
   pub placed_refused : {number : ℕ} → First refusals number → Err number ≡ placed_on list X Y
-  placed_refused f = sym (given refusals (λ number. Err number) (Ok (leaves_of list X Y)) f)
+  placed_refused f = sym (given refusals (λ number. Err number) (Ok (leaves_with (leaves_of list X Y))) f)
 
   -- a box of no width or height
   pub no_dots : levels_good list ≡ true → (c : ℕ) → c < box_count list → has_dots (place_of list X Y c) ≡ false
@@ -58,10 +90,10 @@ module _ (list : List ℕ) (X Y : ℕ) where
   no_dots few c h e = placed_refused (past (ap not few) (here (ap not (below_fails (box_count list) (size_good list X Y) c h e))))
 
   pub all_placed : levels_good list ≡ true → all_below (box_count list) (size_good list X Y) ≡ true
-      → Ok (leaves_of list X Y) ≡ placed_on list X Y
+      → Ok (leaves_with (leaves_of list X Y)) ≡ placed_on list X Y
   unfolding sizes_good
   all_placed few e =
-      sym (taken refusals (λ number. Err number) (Ok (leaves_of list X Y)) (past (ap not few) (past (ap not e) none)))
+      sym (taken refusals (λ number. Err number) (Ok (leaves_with (leaves_of list X Y))) (past (ap not few) (past (ap not e) none)))
 
 -- ---- the refusals
 
@@ -75,13 +107,13 @@ module _ (panel : ℕ) (list : List ℕ) where
   pub layout_refused : {number : ℕ} → First (first ++ last) number → Err number ≡ layout_of panel list
   unfolding layout_of
   layout_refused f =
-      sym (given (first ++ last) (λ number. Err number) (Ok (leaves_of list (width_of panel) (rows_of panel))) f)
+      sym (given (first ++ last) (λ number. Err number) (Ok (leaves_with (leaves_of list (width_of panel) (rows_of panel)))) f)
 
   pub layout_placed : (X Y : ℕ) → X ≡ width_of panel → Y ≡ rows_of panel → None first → placed_on list X Y ≡ layout_of panel list
   unfolding layout_of
   layout_placed X Y e q free =
       rw (e, q)
-      (none_append first last (λ number. Err number) (Ok (leaves_of list (width_of panel) (rows_of panel))) free)
+      (none_append first last (λ number. Err number) (Ok (leaves_with (leaves_of list (width_of panel) (rows_of panel)))) free)
 
 -- ---- the panel
 

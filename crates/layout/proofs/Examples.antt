@@ -6,7 +6,7 @@ use mathlib.Core.List.{List, [], ◌∷◌}
 use Rattle.std.specs.Prelude.{Ok, Err}
 use Rattle.layout_rules.specs.Boxes.{child_good, box_good, child_once, list_good}
 use Rattle.layout.specs.Places.{parent_of, order_in, levels_above, levels_good, part_of, place_of, size_good, sizes_good}
-use Rattle.layout.specs.Answer.{Answer, layout_of}
+use Rattle.layout.specs.Answer.{leaves_with, Answer, layout_of}
 use Rattle.layout.specs.declared.Rect.{Rect}
 
 abbrev rect : (x y width height : ℕ) → Rect
@@ -14,7 +14,7 @@ rect x y width height = record { x = x; y = y; width = width; height = height }
 
 -- two columns with an edge at a third of 264, the right one cut in half: boxes 1, 3 and 4 are the leaves
 pub thirds : layout_of 2 (5 ∷ 2 ∷ 1 ∷ 2 ∷ 1 ∷ 2 ∷ 0 ∷ 2 ∷ 1 ∷ 1 ∷ 3 ∷ 4 ∷ 0 ∷ 0 ∷ [])
-    ≡ Ok (rect 0 0 88 176 ∷ rect 88 0 176 88 ∷ rect 88 88 176 88 ∷ [])
+    ≡ Ok (leaves_with (rect 0 0 88 176 ∷ rect 88 0 176 88 ∷ rect 88 88 176 88 ∷ []))
 unfolding layout_of list_good box_good child_good child_once levels_good levels_above parent_of order_in sizes_good size_good place_of part_of
 thirds = refl
 

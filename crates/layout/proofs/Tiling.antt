@@ -4,21 +4,22 @@ use mathlib.Core.Path.{◌≡◌, refl, sym, ap, ◌∙◌}
 use mathlib.Core.Bool.{Bool, true, false, cond, ◌&&◌}
 use mathlib.Core.List.{List, [], ◌∷◌, ◌++◌, append-nil}
 use mathlib.Core.Logic.{◌⊎◌, inl, inr, ⊎_elim}
-use Prim.Native.Nat.{ℕ, zero, suc, ◌+◌, ◌%◌, ◌≤◌, ◌<◌}
+use Prim.Native.Nat.{ℕ, zero, suc, ◌+◌, ◌-◌, ◌%◌, ◌≤◌, ◌<◌}
 use native.Mathlib.Nat.{eq-zero-or-pos}
 use native.Mathlib.Omega.{arith}
 use borrow.Author.Tests.{ltb-true, leb-true, lt-ltb, le-leb, eq-eqb, eqb-true, not-false}
 use native.Mathlib.Decide.{ℕ_discrete}
 use Rattle.std.specs.Prelude.{Ok, Err}
 use lib.Dec.{eqb}
-use lib.ListN.{length, get_or, length-append, get_or-append}
-use lib.Seq.{get_or-append_seam}
+use lib.ListN.{length, get_or, replicate, length-append, get_or-append}
+use lib.Seq.{get_or-append_seam, take_at}
 use Rattle.lists.proofs.Rules.{holds, keep, none, all_kept, None, past, by_cases}
 use Rattle.layout_rules.specs.Boxes.{box_count, child_count, child_of, start_of, weight_of, list_good}
 use Rattle.layout.specs.Places.{parent_of, parent_start, order_in, levels_above, weights_below, edge_of, width_part, height_part, part_of, place_of}
 use Rattle.layout.specs.Tiling.{cover_rules, covers, times_covered, Inside, LeavesTile, Tiled}
 use Rattle.layout.specs.declared.Rect.{Rect}
-use Rattle.layout.specs.Answer.{is_leaf, leaves_below, leaves_of, nowhere, Answer, cases, layout_of}
+use Rattle.layout.specs.declared.Leaves.{Leaves}
+use Rattle.layout.specs.Answer.{is_leaf, leaves_below, leaves_of, nowhere, leaves_with, Answer, cases, layout_of}
 use Rattle.panel.specs.Panels.{width_of, rows_of}
 use Rattle.counting.specs.Below.{sum_below}
 use Rattle.counting.proofs.Below.{sum-le, sum_one}
@@ -254,18 +255,22 @@ kept : (panel : ℕ) (list : List ℕ) → None (cases panel list) → list_good
 kept panel list (past p (past good rest)) = not-false (list_good list) good
 
 -- what an accepted call was given and gives
-pub accepted : (panel : ℕ) (list : List ℕ) (leaves : List Rect) → layout_of panel list ≡ Ok leaves
-    → ((list_good list ≡ true) × (leaves ≡ leaves_of list (width_of panel) (rows_of panel)))
+pub accepted : (panel : ℕ) (list : List ℕ) (leaves : Leaves) → layout_of panel list ≡ Ok leaves
+    → ((list_good list ≡ true) × (leaves ≡ leaves_with (leaves_of list (width_of panel) (rows_of panel))))
 unfolding layout_of
 accepted panel list leaves =
-    by_cases (λ (answer : Answer). answer ≡ Ok leaves → ((list_good list ≡ true) × (leaves ≡ leaves_of list (width_of panel) (rows_of panel))))
-    (cases panel list) (λ number. Err number) (Ok (leaves_of list (width_of panel) (rows_of panel))) refl
+    by_cases (λ (answer : Answer). answer ≡ Ok leaves → ((list_good list ≡ true) × (leaves ≡ leaves_with (leaves_of list (width_of panel) (rows_of panel)))))
+    (cases panel list) (λ number. Err number) (Ok (leaves_with (leaves_of list (width_of panel) (rows_of panel)))) refl
     (λ number e q. absurd (cc)) (λ free q. (kept panel list free, (cc)))
 
 -- its leaves tile the panel
 pub layout_tiles : (panel : ℕ) (list : List ℕ) → Tiled panel (layout_of panel list)
 unfolding layout_of
 layout_tiles panel list =
+    let rects : List Rect = leaves_of list (width_of panel) (rows_of panel) in
     by_cases (Tiled panel)
-    (cases panel list) (λ number. Err number) (Ok (leaves_of list (width_of panel) (rows_of panel))) refl
-    (λ number e. tt) (λ free. leaves_tile list (kept panel list free) (width_of panel) (rows_of panel))
+    (cases panel list) (λ number. Err number) (Ok (leaves_with rects)) refl
+    (λ number e. tt)
+    (λ free.
+    rw (take_at rects (replicate (64 - length rects) nowhere) (length rects) refl)
+    (leaves_tile list (kept panel list free) (width_of panel) (rows_of panel)))

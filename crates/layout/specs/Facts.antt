@@ -6,7 +6,7 @@ use Rattle.refusal.specs.declared.Refusal.TheVariants.{Levels}
 use Rattle.lists.specs.Rules.{case, first_of}
 use Rattle.layout_rules.specs.Boxes.{box_count, child_count, child_of, next_box, list_good}
 use Rattle.layout.specs.Places.{parent_of, levels_above, level_good, levels_good, weights_below, place_of, sizes_good}
-use Rattle.layout.specs.Answer.{nowhere, Answer, leaves_of}
+use Rattle.layout.specs.Answer.{nowhere, leaves_with, Answer, leaves_of}
 use Rattle.layout.specs.Tiling.{Inside}
 use Rattle.layout.specs.declared.Rect.{Rect}
 use Rattle.layout.specs.declared.shares.Share.{Share}
@@ -15,7 +15,7 @@ use Rattle.layout.specs.declared.shares.Share.{Share}
 abbrev pub placed_on : (list : List ℕ) (X Y : ℕ) → Answer
 placed_on list X Y =
     first_of (case (not (levels_good list)) 30 ∷ case (not (sizes_good list X Y)) 31 ∷ []) (λ number. Err number)
-    (Ok (leaves_of list X Y))
+    (Ok (leaves_with (leaves_of list X Y)))
 
 -- ---- shares
 

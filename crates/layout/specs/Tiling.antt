@@ -1,6 +1,6 @@
 -- Request 2026-13: the leaves tile the panel. None overlaps another, and together they are all of it.
 -- Assumes nothing.
-use Rattle.std.specs.Prelude.{ℕ, ◌+◌, ◌≤◌, ◌<◌, ◌≡◌, Bool, true, cond, List, [], ◌∷◌, ltb, leb, length, get_or, IfOk}
+use Rattle.std.specs.Prelude.{ℕ, ◌+◌, ◌≤◌, ◌<◌, ◌≡◌, Bool, true, cond, List, [], ◌∷◌, ltb, leb, length, get_or, take, IfOk}
 use Rattle.lists.specs.Rules.{every}
 use Rattle.panel.specs.Panels.{width_of, rows_of}
 use Rattle.layout_rules.specs.Boxes.{list_good}
@@ -37,4 +37,4 @@ LeavesTile = (list : List ℕ) → list_good list ≡ true → (X Y : ℕ) → T
 
 -- leaves that are given tile the panel
 abbrev pub Tiled : (panel : ℕ) (answer : Answer) → Type 0
-Tiled panel answer = IfOk answer (λ leaves. Tiles (width_of panel) (rows_of panel) leaves)
+Tiled panel answer = IfOk answer (λ leaves. Tiles (width_of panel) (rows_of panel) (take leaves.count leaves.rects))

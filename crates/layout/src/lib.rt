@@ -16,7 +16,6 @@ ghost use Rattle.layout.specs.Facts.{
 
 mod shares;
 
-use arrayvec::ArrayVec;
 use panel::Panel;
 use refusal::Refusal;
 use shares::Share;
@@ -31,8 +30,13 @@ pub struct Rect {
     pub height: u32,
 }
 
-// The leaves of a layout. A list has at most 64 boxes, so that they fit without a heap.
-pub type Leaves = ArrayVec<Rect, 64>;
+// The leaves of a layout: the first `count` rectangles, with empty ones after them. A list has at most 64 boxes, so that they fit without
+// a heap.
+#[derive(Clone, Copy)]
+pub struct Leaves {
+    pub count: usize,
+    pub rects: [Rect; 64],
+}
 
 // Where each box stands, by its number, as far as they are placed.
 type Chart = [Rect; 64];
@@ -155,7 +159,10 @@ fn leaves_on(list: &[u8], width: u32, height: u32) -> Result<Leaves, Refusal>
     ensures { answer_given result ≡ placed_on list.now width height }
 {
     let chart = chart_on(list, width, height)?;
-    let mut leaves = ArrayVec::new();
+    let mut leaves = Leaves {
+        count: 0,
+        rects: [Rect::default(); 64],
+    };
     // The index is carried along with the box's number, since only the box says where the next one begins.
     let mut at = 1;
     for c in 0..usize::from(list[0]) {
@@ -164,7 +171,8 @@ fn leaves_on(list: &[u8], width: u32, height: u32) -> Result<Leaves, Refusal>
             return Err(Refusal::Empty);
         }
         if list[at] == 0 {
-            leaves.push(place);
+            leaves.rects[leaves.count] = place;
+            leaves.count += 1;
         }
         at = layout_rules::next_box(list, at);
     }

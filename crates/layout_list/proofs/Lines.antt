@@ -7,7 +7,7 @@ use native.Mathlib.Nat.{pow-le-pow_right}
 use native.Mathlib.Numerals.{add-one}
 use native.Mathlib.Omega.{arith}
 use borrow.Author.Tests.{lt-ltb}
-use lib.ListN.{length, get_or, take}
+use lib.ListN.{length, get_or, take, replicate, get_or-append}
 use Rattle.io.specs.Digits.{hex_digit_ascii, last_digits, IsDigitCount}
 use Rattle.listing.specs.Text.{digit, decimal}
 use lib.Seq.{take-suc}
@@ -19,12 +19,12 @@ use Rattle.layout_rules.specs.Boxes.{box_count}
 use Rattle.layout.specs.Answer.{nowhere, leaves_of, layout_of, answer_given}
 use Rattle.layout.specs.Tiling.{Inside}
 use Rattle.layout_rules.proofs.Boxes.{good_framed}
-use Rattle.layout.proofs.Answer.{leaves_le}
+use Rattle.layout.proofs.Answer.{length-padded, leaves_le}
 use Rattle.layout.proofs.Tiling.{accepted, leaves_tile}
 use Rattle.layout.specs.declared.Rect.{Rect}
+use Rattle.layout.specs.declared.Leaves.{Leaves}
 use Rattle.std.specs.Prelude.{Result, Ok, Err, IfOk}
 use Rattle.refusal.specs.declared.Refusal.{Refusal}
-use Rattle.arrayvec.specs.ArrayVec.{ArrayVec}
 use Rattle.layout_list.specs.Text.{leaf_line, leaf_lines, answer_text, layout_text, Drawn}
 
 lines_append : (left right : List Rect) → leaf_lines (left ++ right) ≡ leaf_lines left ++ leaf_lines right
@@ -75,15 +75,18 @@ fewest_short n (suc (suc (suc (suc k)))) h f = absurd (fewest_long n k h f)
 -- ---- the text of an answer
 
 -- the leaves of an accepted answer lie on the panel
-pub drawn : (panel : ℕ) (list : List ℕ) (answer : Result (ArrayVec Rect) Refusal) → answer_given answer ≡ layout_of panel list
-    → IfOk answer (λ leaves. Drawn leaves.items)
+pub drawn : (panel : ℕ) (list : List ℕ) (answer : Result Leaves Refusal) → answer_given answer ≡ layout_of panel list → IfOk answer Drawn
 drawn panel list (Err refusal) e = tt
 drawn panel list (Ok leaves) e =
-    let g = accepted panel list leaves.items (sym e) in
+    let g = accepted panel list leaves (sym e) in
     let rects : List Rect = leaves_of list (width_of panel) (rows_of panel) in
+    let few : length rects ≤ 64 = omega (arith, leaves_le list (width_of panel) (rows_of panel) (box_count list), (good_framed list g.0).few) in
     rw g.1 (record {
-      few = omega (arith, leaves_le list (width_of panel) (rows_of panel) (box_count list), (good_framed list g.0).few);
-      inside = λ k h. largest panel (get_or rects k nowhere) ((leaves_tile list g.0 (width_of panel) (rows_of panel)).within k h);
+      few = few;
+      whole = length-padded rects few;
+      inside = λ k h.
+          rw (get_or-append rects (replicate (64 - length rects) nowhere) nowhere k h)
+          (largest panel (get_or rects k nowhere) ((leaves_tile list g.0 (width_of panel) (rows_of panel)).within k h));
     }) where
       largest : (panel : ℕ) (r : Rect) → Inside (width_of panel) (rows_of panel) r → Inside 264 176 r
       largest panel r i = record {

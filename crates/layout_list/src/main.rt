@@ -1,7 +1,7 @@
 // Reads a panel's code and a layout's list on standard input, and writes a line for each leaf on standard output.
 #![tactic(auto)]
 
-ghost use Rattle.std.specs.Prelude.{◌≡◌, ◌+◌, ◌≤◌, ◌<◌, ◌++◌, [], ◌∷◌, IfOk, length};
+ghost use Rattle.std.specs.Prelude.{◌≡◌, ◌+◌, ◌≤◌, ◌<◌, ◌++◌, [], ◌∷◌, IfOk, take};
 ghost use Rattle.arrayvec.specs.ArrayVec.{array_vec_len};
 ghost use Rattle.listing.specs.Text.{decimal};
 ghost use Rattle.layout.specs.Tiling.{Inside};
@@ -41,23 +41,23 @@ fn put_leaf(page: &mut Page, r: Rect)
 }
 
 // The lines of leaves.
-fn put_leaves(page: &mut Page, leaves: &[Rect])
+fn put_leaves(page: &mut Page, leaves: &Leaves)
     requires { (Drawn leaves.now) × (page.old.items ≡ []) }
-    ensures { page.new.items ≡ leaf_lines leaves.now }
+    ensures { page.new.items ≡ leaf_lines (take leaves.now.count leaves.now.rects) }
 {
-    for leaf in leaves {
+    for leaf in &leaves.rects[..leaves.count] {
         put_leaf(page, *leaf);
     }
 }
 
 // The text of an answer.
 fn page_of(answer: Result<Leaves, Refusal>) -> Page
-    requires { IfOk answer (λ leaves. Drawn leaves.items) }
+    requires { IfOk answer Drawn }
     ensures { result.items ≡ answer_text (answer_given answer) }
 {
     let mut page = ArrayVec::new();
     match answer {
-        Ok(leaves) => put_leaves(&mut page, leaves.as_slice()),
+        Ok(leaves) => put_leaves(&mut page, &leaves),
         Err(refusal) => {
             page.try_extend_from_slice(b"refused ").unwrap();
             put_number(&mut page, u32::from(refusal.number()), b'\n');

@@ -1,13 +1,13 @@
 -- A box of no dots, or the leaves.
 -- Assumes nothing.
-use Rattle.std.proofs.Common.{arith, ◌≡◌, ◌<◌, ◌∙◌, ap, sym, length}
+use Rattle.std.proofs.Common.{arith, ◌≡◌, ◌∙◌, ap, sym}
 use mathlib.Core.Bool.{not}
 use borrow.Author.Tests.{eq-eqb, ne_eqb}
 use Rattle.lists.proofs.Rules.{refused, passed}
 use Rattle.layout_rules.specs.Boxes.{box_count, child_count, start_of}
 use Rattle.layout.specs.Places.{has_dots}
 use Rattle.layout_rules.proofs.Boxes.{some_bytes, good_framed, box-within, next_start}
-use Rattle.layout.proofs.Answer.{leaves_le, leaf_more, inner_more, size_more, no_dots, all_placed}
+use Rattle.layout.proofs.Answer.{room, leaf_more, inner_more, size_more, no_dots, all_placed}
 use Rattle.layout.proofs.leaves_on.Goals as goal
 use Rattle.layout.proofs.leaves_on.Goals.{then-list-at-eq0, else-list-at-eq0}
 
@@ -32,13 +32,23 @@ bounds-list-at c =
     let l = c.loop-c in
     omega (arith, box-within list (good_framed list c.requires.0) l.c l.at (omega arith) l.invariant.0)
 
-pub push-requires : goal.push-requires
-push-requires c =
+pub offset_bounds-leaves-leaves : goal.offset_bounds-leaves-leaves
+offset_bounds-leaves-leaves c =
     let a = c.args in
     let l = c.loop-c in
-    let room : length l.leaves.items < 64 =
-    rw l.invariant.2 (omega (arith, leaves_le a.list.now a.width a.height l.c, (good_framed a.list.now c.requires.0).few)) in
-    (omega arith, room)
+    omega (arith, (room a.list.now a.width a.height l.c l.leaves l.invariant.2 (omega (arith, (good_framed a.list.now c.requires.0).few))).0)
+
+pub bounds-leaves-leaves : goal.bounds-leaves-leaves
+bounds-leaves-leaves c =
+    let a = c.args in
+    let l = c.loop-c in
+    (room a.list.now a.width a.height l.c l.leaves l.invariant.2 (omega (arith, (good_framed a.list.now c.requires.0).few))).0
+
+pub overflow_add-leaves : goal.overflow_add-leaves
+overflow_add-leaves c =
+    let a = c.args in
+    let l = c.loop-c in
+    omega (arith, (room a.list.now a.width a.height l.c l.leaves l.invariant.2 (omega (arith, (good_framed a.list.now c.requires.0).few))).0)
 
 pub next_box-at-requires : goal.next_box-at-requires
 next_box-at-requires c =
@@ -51,17 +61,18 @@ loop-c-preserved c =
     let a = c.args in
     let list = a.list.now in
     let l = c.loop-c in
+    let few = (good_framed list c.requires.0).few in
     let place = c.in_ok-chart.ensures.stands l.c (omega arith) in
     let dots = ap has_dots (sym place) ∙ passed c.has_dots.ensures (ap not c.if-not-has_dots.false) in (
       c.next_box-at.ensures ∙ next_start list l.c l.at l.invariant.0,
       size_more list a.width a.height l.c dots l.invariant.1,
       elim c.if-list-at-eq0.branch [
         | then-list-at-eq0 w ↦
-            rw (w.leaves-is, w.push.ensures.items, l.invariant.2, place)
-            (leaf_more list a.width a.height l.c (eq-eqb (child_count list (start_of list l.c)) 0 (rw l.invariant.0 at w.if-list-at-eq0.true)))
+            w.leaves-is ∙ rw place (leaf_more list a.width a.height l.c l.leaves l.invariant.2 (omega (arith, few))
+            (eq-eqb (child_count list (start_of list l.c)) 0 (rw l.invariant.0 at w.if-list-at-eq0.true)))
         | else-list-at-eq0 w ↦
-            rw (w.leaves-is, l.invariant.2)
-            (inner_more list a.width a.height l.c (ne_eqb (child_count list (start_of list l.c)) 0 (rw l.invariant.0 at w.if-list-at-eq0.false)))
+            w.leaves-is ∙ inner_more list a.width a.height l.c l.leaves l.invariant.2
+            (ne_eqb (child_count list (start_of list l.c)) 0 (rw l.invariant.0 at w.if-list-at-eq0.false))
       ],
     )
 
