@@ -120,6 +120,10 @@ module _ (panel : ℕ) (list : List ℕ) where
 pub unnamed_lem : (code : ℕ) → 3 ≤ code → is_panel code ≡ false
 unnamed_lem code h = le-ltb code 3 h
 
+-- the width of a panel
+pub width_bytes : (panel : ℕ) → panel < 3 → 8 * row_bytes_of panel ≡ width_of panel
+width_bytes = each_panel (λ p. 8 * row_bytes_of p ≡ width_of p) refl refl refl
+
 module _ (code : ℕ) (panel : Panel) (named : panel_code panel ≡ code) where
   pub named_lem : is_panel code ≡ true
   named_lem = lt-ltb code 3 (rw named at (code_lt panel))
@@ -131,6 +135,4 @@ module _ (code : ℕ) (panel : Panel) (named : panel_code panel ≡ code) where
     pub width_named : 8 * shape.bytes ≡ width_of code
     width_named =
         let bytes : shape.bytes ≡ row_bytes_of code = ap (λ (s : Sizes). s.bytes) is ∙ ap row_bytes_of named in
-        rw bytes (width_bytes code (rw named at (code_lt panel))) where
-          width_bytes : (panel : ℕ) → panel < 3 → 8 * row_bytes_of panel ≡ width_of panel
-          width_bytes = each_panel (λ p. 8 * row_bytes_of p ≡ width_of p) refl refl refl
+        rw bytes (width_bytes code (rw named at (code_lt panel)))
