@@ -11,7 +11,7 @@ use Rattle.refusal.specs.Numbers.{number_of}
 use Rattle.refusal.specs.declared.Refusal.{Refusal}
 use Rattle.finish_panel.specs.declared.Given.{Given}
 use Rattle.finish_panel.specs.Facts.{second_frame, shown_length, update_in, Begun}
-use Rattle.lists.specs.Lists.{overlay}
+use Rattle.lists.specs.Lists.{overlay, overlay_at}
 use Rattle.lists.specs.Rules.{Case, first_of}
 use Rattle.lists.proofs.Rules.{None as Free, some_append, none_append}
 use lib.IntN.{ℤ}
@@ -47,6 +47,10 @@ module _ (thing : Thing) (out : List ℕ) where
     pub give : Free cases → {given : Answer × List ℕ} → given ≡ give_out [] thing out → given ≡ give_out cases thing out
     unfolding give_out
     give free e = e ∙ none_append cases (too_short thing out) (λ n. (Err n, out)) (answer_of thing, overlay (bytes_of thing) out) free
+
+-- bytes that are laid over a list after its first are put in the place of as many
+pub put_after : (bytes after : List ℕ) → overlay_at 1 bytes after ≡ put_mid 1 (length bytes + 1 - 1) after bytes
+put_after bytes after = let e : length bytes + 1 - 1 ≡ length bytes = omega arith in rw e
 
 -- a write that was begun: there was too little room, or its n bytes come after the register
 module _ (register n : ℕ) (bytes out : List ℕ) (size : n ≡ length bytes) where

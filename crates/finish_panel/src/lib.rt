@@ -42,7 +42,7 @@ fn give_write(register: u8, bytes: &[u8], out: &mut [u8]) -> Result<Given, Refus
 {
     let n = bytes.len();
     let given = begin_write(register, n, out)?;
-    out[1..=n].copy_from_slice(bytes);
+    lists::put_at(out, 1, bytes);
     Ok(given)
 }
 

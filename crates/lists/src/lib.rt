@@ -5,13 +5,15 @@
 ghost use Rattle.std.specs.Prelude.{◌≡◌, ◌+◌, ◌≤◌, length, replicate};
 ghost use Rattle.lists.specs.Lists.{overlay_at};
 
-// Copies `bytes` into `out`, from index `at` on.
+// Copies `bytes` into `out`, from index `at` on. It is a loop, as `copy_from_slice` would have the archives for C ask their users for memmove
+// besides memcpy and memset.
 pub fn put_at(out: &mut [u8], at: usize, bytes: &[u8])
     requires { at + length bytes.now ≤ length out.old }
     ensures { out.new ≡ overlay_at at bytes.now out.old }
 {
-    let end = at + bytes.len();
-    out[at..end].copy_from_slice(bytes);
+    for i in 0..bytes.len() {
+        out[at + i] = bytes[i];
+    }
 }
 
 // Fills the n bytes of `out` from index `at` on with one value.

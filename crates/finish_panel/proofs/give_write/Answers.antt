@@ -2,7 +2,7 @@
 -- Assumes nothing.
 use Rattle.std.proofs.Common.{refl, length}
 use Rattle.std.proofs.lemmas.Result.{err_from_is_err_and}
-use Rattle.finish_panel.proofs.Update.{refused, written}
+use Rattle.finish_panel.proofs.Update.{refused, put_after, written}
 use Rattle.finish_panel.proofs.give_write.Goals as goal
 
 pub returns-in_err-given : goal.returns-in_err-given
@@ -14,4 +14,4 @@ returns-in_err-given c =
 pub returns : goal.returns
 returns c =
     let a = c.args in
-    rw c.copy_from_slice.ensures.after (written a.register (length a.bytes.now) a.bytes.now a.out.now refl c.in_ok-given.ensures)
+    rw (c.put_at.ensures, put_after a.bytes.now) (written a.register (length a.bytes.now) a.bytes.now a.out.now refl c.in_ok-given.ensures)
