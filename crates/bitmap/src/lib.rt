@@ -175,15 +175,15 @@ pub fn field_good(file: &[u8], field: Field) -> bool
         }
 }
 
-// Whether every field of the header is good.
+// Whether every field of the header is good. Each is made when it is asked for, and the first that is not good ends it.
 fn header_good(shape: Shape, file: &[u8]) -> bool
     requires { 62 ≤ length file.now }
     ensures { result
         ≡ every (map (field_good file.now) (header_fields shape.bytes shape.rows shape.stride)) }
 {
-    header_fields(shape)
+    table()
         .iter()
-        .all(|&field| field_good(file, field))
+        .all(|&entry| field_good(file, field_of(shape, entry)))
 }
 
 // The palette of two colours.

@@ -18,7 +18,8 @@ fn write_header(shape: Shape, out: &mut [u8])
     requires { 62 ≤ length out.old }
     ensures { out.new ≡ overlay (header shape.bytes shape.rows shape.stride) out.old }
 {
-    for field in &bitmap::header_fields(shape) {
+    for &entry in &bitmap::table() {
+        let field = bitmap::field_of(shape, entry);
         bitmap::put_number(out, field.at, field.size, field.number);
     }
 }

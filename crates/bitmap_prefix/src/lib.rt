@@ -68,7 +68,5 @@ pub fn header_begins(shape: Shape, bytes: &[u8]) -> bool
     ensures { result ≡ header_begins shape.bytes shape.rows shape.stride bytes.now }
 {
     palette_begins(bytes)
-        && bitmap::header_fields(shape)
-            .iter()
-            .all(|&field| field_begins(bytes, field))
+        && bitmap::table().iter().all(|&entry| field_begins(bytes, bitmap::field_of(shape, entry)))
 }

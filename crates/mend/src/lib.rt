@@ -48,9 +48,7 @@ fn fields_mendable(shape: Shape, file: &[u8]) -> bool
     ensures { result
         ≡ every (map (field_mendable file.now) (header_fields shape.bytes shape.rows shape.stride)) }
 {
-    bitmap::header_fields(shape)
-        .iter()
-        .all(|&field| field_mendable(file, field))
+    bitmap::table().iter().all(|&entry| field_mendable(file, bitmap::field_of(shape, entry)))
 }
 
 // Whether a file can be mended.
@@ -90,8 +88,8 @@ fn mended_header(shape: Shape, file: &[u8]) -> [u8; HEADER_LENGTH]
 {
     let mut header = [0; HEADER_LENGTH];
     header.copy_from_slice(&file[..HEADER_LENGTH]);
-    for field in bitmap::header_fields(shape) {
-        mend_field(&mut header, file, field);
+    for &entry in &bitmap::table() {
+        mend_field(&mut header, file, bitmap::field_of(shape, entry));
     }
     header
 }

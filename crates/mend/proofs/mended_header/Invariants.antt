@@ -6,8 +6,8 @@ use Rattle.bitmap.specs.Header.{header_length, header_fields}
 use Rattle.mend.specs.Mending.{mend_fields}
 use Rattle.mend.proofs.mended_header.Given as goal
 
-abbrev pub invariant-loop-field : goal.invariant-loop-field
-invariant-loop-field l =
+abbrev pub invariant-loop-entry : goal.invariant-loop-entry
+invariant-loop-entry l =
     let s = l.fn.shape in
     (length l.header ≡ header_length)
-    × (l.header ≡ mend_fields l.file (take l.field-index (header_fields s.bytes s.rows s.stride)) (take header_length l.file))
+    × (l.header ≡ mend_fields l.file (take l.entry-index (header_fields s.bytes s.rows s.stride)) (take header_length l.file))
