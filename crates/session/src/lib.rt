@@ -59,8 +59,8 @@ pub enum Command<'a> {
 // The store's state, and how many bytes of the memory a call is lent. The memory is the caller's: each call of the store is lent it anew.
 #[derive(Clone, Copy)]
 pub struct Session {
-    state: State,
-    lent: usize,
+    pub state: State,
+    pub lent: usize,
 }
 
 // The bytes that an opening on this file takes. Where the file names no panel, or n is above 7, it is refused with any length.
