@@ -31,10 +31,9 @@ size_found (write register bytes) = Some (2 + data_length register)
 size_found (wait ms) = Some 3
 size_found malformed = None
 
--- for each register whether it is written so far, after a step of this kind
-abbrev pub marked : Kind → (written : List Bool) → List Bool
-marked (Write register) written = set written register true
-marked (Wait ms) written = written
+-- for each register whether it is written so far, after a step that begins with this tag and this byte
+abbrev pub marked : (tag register : ℕ) (written : List Bool) → List Bool
+marked tag register written = cond (eqb tag 0x57) (set written register true) written
 
 -- n steps from index `at` on end at index `end`, or at bytes that are no step
 pub record EndsAt (panel n at : ℕ) (file : List ℕ) (end : ℕ) : Type 0 where

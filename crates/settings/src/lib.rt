@@ -1,7 +1,7 @@
 // The settings file: the check of its rules, and the reading of its steps.
 #![tactic(auto)]
 
-ghost use Rattle.std.specs.Prelude.{◌≡◌, ℕ, ◌+◌, ◌≤◌, ◌<◌, length, get_or, drop};
+ghost use Rattle.std.specs.Prelude.{◌≡◌, ◌+◌, ◌≤◌, ◌<◌, length, get_or, drop};
 ghost use Rattle.lists.specs.Rules.{every};
 ghost use Rattle.panel.specs.Names.{panel_code};
 ghost use Rattle.panel.specs.Registers.{data_length};
@@ -61,7 +61,9 @@ impl Kind {
     }
 }
 
-// Whether a register's data, from index `at` on, are what this panel asks of it.
+// Whether a register's data, from index `at` on, are what this panel asks of it. It is compiled into the loop of `pass_steps`, as
+// `write_size` and `step_size` are.
+#[inline(always)]
 fn data_good(file: &[u8], at: usize, panel: Panel, register: u8) -> bool
     requires { at + data_length register ≤ length file.now }
     ensures { result ≡ has_prefix (drop at file.now) (required_data (panel_code panel) register) }
@@ -82,7 +84,9 @@ fn has_prefix(file: &[u8], at: usize, prefix: &[u8]) -> bool
 }
 
 // How many bytes a write of a register takes that stands at index `at`, if its data are there and are what this panel asks. A register
-// that no step may write has no data, and its size would be 2. No `then_some`: a test of this length is read more easily as an `if`.
+// that no step may write has no data, and its size would be 2. No `then_some`: a test of this length is read more easily as an `if`. It is
+// compiled into the loop of `pass_steps`, as `step_size` is.
+#[inline(always)]
 fn write_size(file: &[u8], at: usize, panel: Panel, register: u8) -> Option<usize>
     requires { at ≤ length file.now }
     ensures { result ≡ size_found (write_of (panel_code panel) register (drop (at + 2) file.now)) }
@@ -143,13 +147,15 @@ pub fn step_at(file: &[u8], at: usize, panel: Panel) -> Option<Kind>
     Some(kind_at(file, at))
 }
 
-// Marks the register that a step writes, if it writes one. A mark is a store alone; two tests a step would make the loop slower.
-fn mark(written: &mut [bool; 10], kind: Kind)
-    requires { (register : ℕ) → kind ≡ Kind.Write register → register < 10 }
-    ensures { written.new ≡ marked kind written.old }
+// Marks the register that is written by the step at a place of the file, where that is a write. A mark is a store alone; two tests a step
+// would make the loop slower.
+fn mark(written: &mut [bool; 10], file: &[u8], at: usize)
+    requires { (at + 1 < length file.now) × (get_or file.now (at + 1) 0 < 10) }
+    ensures { written.new
+        ≡ marked (get_or file.now at 0) (get_or file.now (at + 1) 0) written.old }
 {
-    if let Kind::Write(register) = kind {
-        written[usize::from(register)] = true;
+    if file[at] == 0x57 {
+        written[usize::from(file[at + 1])] = true;
     }
 }
 
@@ -172,8 +178,7 @@ pub fn pass_steps(file: &[u8], panel: Panel, at: usize, n: usize) -> Result<Step
         let Some(size) = step_size(file, end, panel) else {
             return Err(end);
         };
-        let kind = kind_at(file, end);
-        mark(&mut written, kind);
+        mark(&mut written, file, end);
         end += size;
     }
     Ok(StepsEnd {
@@ -218,10 +223,11 @@ fn stop_good(file: &[u8], stop: usize) -> bool
     let Some(&n) = file.get(stop) else {
         return false;
     };
-    match pass_steps(file, panel_of(file), stop + 1, usize::from(n)) {
-        Ok(passed) => n <= 32 && passed.end == file.len(),
-        Err(_) => false,
-    }
+    n <= 32
+        && match pass_steps(file, panel_of(file), stop + 1, usize::from(n)) {
+            Ok(passed) => passed.end == file.len(),
+            Err(_) => false,
+        }
 }
 
 // Where the stop section begins, if a file keeps every rule.

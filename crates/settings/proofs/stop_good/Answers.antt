@@ -12,8 +12,8 @@ use Rattle.settings.proofs.stop_good.Goals as goal
 pub returns-in_default : goal.returns-in_default
 returns-in_default c = sym (no_section c.requires.1 c.in_default.ensures.lookup.3)
 
-pub returns-then-n-le32 : goal.returns-then-n-le32
-returns-then-n-le32 c =
+pub returns-in-Ok : goal.returns-in-Ok
+returns-in-Ok c =
     let file = c.args.file.now in
     let n : c.from.result ≡ get_or file c.args.stop 0 = c.from.ensures ∙ c.in-Some.ensures.lookup.3.1 0 in
     let passed : StepsPassed (panel_of file) (get_or file c.args.stop 0) (c.args.stop + 1) file (Ok c.in-Ok.passed) =
