@@ -84,19 +84,18 @@ fn has_prefix(file: &[u8], at: usize, prefix: &[u8]) -> bool
 }
 
 // How many bytes a write of a register takes that stands at index `at`, if its data are there and are what this panel asks. A register
-// that no step may write has no data, and its size would be 2. No `then_some`: a test of this length is read more easily as an `if`. It is
-// compiled into the loop of `pass_steps`, as `step_size` is.
+// that no step may write has no data, and its size would be 2. It is compiled into the loop of `pass_steps`, as `step_size` is; one test of
+// all three would leave that loop slower.
 #[inline(always)]
 fn write_size(file: &[u8], at: usize, panel: Panel, register: u8) -> Option<usize>
     requires { at ≤ length file.now }
     ensures { result ≡ size_found (write_of (panel_code panel) register (drop (at + 2) file.now)) }
 {
     let size = Kind::Write(register).size();
-    if 2 < size && size <= file.len() - at && data_good(file, at + 2, panel, register) {
-        Some(size)
-    } else {
-        None
+    if size == 2 || file.len() - at < size {
+        return None;
     }
+    data_good(file, at + 2, panel, register).then_some(size)
 }
 
 // How many bytes a wait of so many ms takes, if it is neither too short nor too long.
