@@ -14,6 +14,15 @@ use Rattle.bitmap.specs.Table.{field_of}
 use Rattle.bitmap.proofs.Fields.{entry-within, each_entry}
 use Rattle.bitmap.proofs.header_good.Goals as goal
 
+pub returns : goal.returns
+returns c =
+    let s = c.args.shape in
+    let file = c.args.file.now in
+    all_from_yields_List (λ entry. field_good file (field_of s.bytes s.rows s.stride entry)) _ _ c.all.result c.all.ensures.ran
+    (YieldsList-from_slice c.table.result cc)
+    (λ x b q k. search (rules, tests))
+    ∙ each_entry s.bytes s.rows s.stride c.table.result (c.table.ensures s.bytes s.rows s.stride) (field_good file)
+
 pub all-requires-clause-callable : goal.all-requires-clause-callable
 all-requires-clause-callable c =
     let s = c.args.shape in
@@ -24,12 +33,3 @@ all-requires-clause-callable c =
     let fits : (field_of s.bytes s.rows s.stride x.now).at + (field_of s.bytes s.rows s.stride x.now).size ≤ length c.args.file.now =
     omega (arith, within.1, c.requires) in
     search (rules, within, fits))
-
-pub returns : goal.returns
-returns c =
-    let s = c.args.shape in
-    let file = c.args.file.now in
-    all_from_yields_List (λ entry. field_good file (field_of s.bytes s.rows s.stride entry)) _ _ c.all.result c.all.ensures.ran
-    (YieldsList-from_slice c.table.result cc)
-    (λ x b q k. search (rules, tests))
-    ∙ each_entry s.bytes s.rows s.stride c.table.result (c.table.ensures s.bytes s.rows s.stride) (field_good file)

@@ -8,6 +8,13 @@ use Rattle.bitmap_codec.specs.Codec.{header}
 use Rattle.bitmap_codec.proofs.Header.{written_next}
 use Rattle.bitmap_codec.proofs.write_header.Goals as goal
 
+pub returns : goal.returns
+unfolding header
+returns c =
+    let l = c.loop-entry in
+    let e : l.entry-index ≡ 17 = omega arith in
+    rw e at l.invariant
+
 pub put_number-requires : goal.put_number-requires
 put_number-requires c =
     let s = c.args.shape in
@@ -26,10 +33,3 @@ loop-entry-preserved c =
     (c.field_of-field.ensures
     ∙ entry_at s.bytes s.rows s.stride c.table.result (c.table.ensures s.bytes s.rows s.stride) l.entry-index (omega arith) _)
     a.out.now (omega arith) l.invariant c.put_number.ensures
-
-pub returns : goal.returns
-unfolding header
-returns c =
-    let l = c.loop-entry in
-    let e : l.entry-index ≡ 17 = omega arith in
-    rw e at l.invariant
