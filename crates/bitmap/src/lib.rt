@@ -45,16 +45,17 @@ pub struct Field {
 // length of these in the file.
 #[derive(Clone, Copy)]
 pub enum Number {
-    Fixed(usize),
+    Fixed(u32),
     FileLength,
     Width,
     Rows,
     RowsLength,
 }
 
-// An entry of the table: a field for pictures of any size, with its parts in the same order.
+// An entry of the table: a field for pictures of any size, with its parts in the same order, each as narrow as it may be, since a check
+// lays the table out on its stack.
 #[derive(Clone, Copy)]
-pub struct Entry(pub usize, pub usize, pub Number, pub Also);
+pub struct Entry(pub u8, pub u8, pub Number, pub Also);
 
 // The bytes before the rows.
 pub const HEADER_LENGTH: usize = 62;
@@ -69,7 +70,7 @@ const FIELDS: [Entry; 17] = [
     Entry(0, 2, Number::Fixed(0x4D42), Also::Only),
     Entry(2, 4, Number::FileLength, Also::Only),
     Entry(6, 4, Number::Fixed(0), Also::Only),
-    Entry(10, 4, Number::Fixed(HEADER_LENGTH), Also::Only),
+    Entry(10, 4, Number::Fixed(HEADER_LENGTH as u32), Also::Only),
     Entry(14, 4, Number::Fixed(40), Also::Only),
     Entry(18, 4, Number::Width, Also::Only),
     Entry(22, 4, Number::Rows, Also::Only),
@@ -81,8 +82,8 @@ const FIELDS: [Entry; 17] = [
     Entry(42, 4, Number::Fixed(0), Also::OrAnything),
     Entry(46, 4, Number::Fixed(0), Also::Or(2)),
     Entry(50, 4, Number::Fixed(0), Also::OrAnything),
-    Entry(54, 4, Number::Fixed(BLACK), Also::OrAnything),
-    Entry(58, 4, Number::Fixed(WHITE), Also::OrAnything),
+    Entry(54, 4, Number::Fixed(BLACK as u32), Also::OrAnything),
+    Entry(58, 4, Number::Fixed(WHITE as u32), Also::OrAnything),
 ];
 
 // The length of a file of h rows that are s bytes apart.
@@ -97,7 +98,7 @@ fn number_of(shape: Shape, number: Number) -> usize
     ensures { result ≡ number_of shape.bytes shape.rows shape.stride number }
 {
     match number {
-        Number::Fixed(n) => n,
+        Number::Fixed(n) => n as usize,
         Number::FileLength => file_length(shape.rows, shape.stride),
         Number::Width => 8 * shape.bytes,
         Number::Rows => shape.rows,
@@ -111,8 +112,8 @@ pub fn field_of(shape: Shape, entry: Entry) -> Field
 {
     let Entry(at, size, number, also) = entry;
     Field {
-        at,
-        size,
+        at: usize::from(at),
+        size: usize::from(size),
         number: number_of(shape, number),
         also,
     }

@@ -112,7 +112,10 @@ pub fn open(file: &[u8], n: u32, memory: &mut [u8]) -> Reply
                 state: opened_state(file, n),
             }
         }
-        Err(refusal) => empty_state().refuse(refusal),
+        Err(refusal) => Reply {
+            number: refusal.number(),
+            state: empty_state(),
+        },
     }
 }
 

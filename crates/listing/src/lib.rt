@@ -186,10 +186,10 @@ pub fn listing_of(file: &[u8]) -> Listing
 {
     let mut page = Page::new();
     put_listing(&mut page, file);
-    let mut text = [0u8; 2145];
-    lists::put_at(&mut text, 0, &page);
-    Listing {
-        text,
+    let mut listing = Listing {
+        text: [0; 2145],
         len: page.len(),
-    }
+    };
+    lists::put_at(&mut listing.text, 0, &page);
+    listing
 }

@@ -34,7 +34,9 @@ fn after(bytes: &[u8], at: usize, n: usize) -> usize
     at + n.min(bytes.len() - at)
 }
 
-// Shows slot 1: starts a run, and polls it until it is done. Answers how many bytes went to the panel, or 0 after a refusal.
+// Shows slot 1: starts a run, and polls it until it is done. Answers how many bytes went to the panel, or 0 after a refusal. It is not
+// compiled into its caller, whose stack would then hold the states of a run while the bitmap before it is uploaded.
+#[inline(never)]
 fn show(state: State, memory: &mut [u8], bus: &mut [u8]) -> usize
     ensures { (result, memory.new, bus.new) ≡ slot_shown state memory.old bus.old }
 {

@@ -195,11 +195,12 @@ fn run_out(rt: &impl Print, hold: Option<u32>, lent: &mut Lent) -> io::Result<()
     finish(rt, &mut drive, lent)
 }
 
-// Each example on a store of its own.
+// Each example opens the store anew, which makes its memory white. One memory for all of them: five would lie on the stack together.
 fn main(rt: HostRuntime) -> io::Result<()> {
-    poll_frame_1(&rt, &mut Lent::new())?;
-    poll_frame_2(&rt, &mut Lent::new())?;
-    run_out(&rt, None, &mut Lent::new())?;
-    run_out(&rt, Some(1920), &mut Lent::new())?;
-    run_out(&rt, Some(2000), &mut Lent::new())
+    let mut lent = Lent::new();
+    poll_frame_1(&rt, &mut lent)?;
+    poll_frame_2(&rt, &mut lent)?;
+    run_out(&rt, None, &mut lent)?;
+    run_out(&rt, Some(1920), &mut lent)?;
+    run_out(&rt, Some(2000), &mut lent)
 }

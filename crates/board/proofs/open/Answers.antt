@@ -17,5 +17,5 @@ returns-in-Ok c =
 pub returns-in-Err : goal.returns-in-Err
 returns-in-Err c =
     let a = c.args in
-    rw c.refuse.ensures
+    rw c.number.ensures
     (search (rules, open_refused a.file.now a.n a.memory.now c.in-Err.ensures c.empty_state.ensures (some_refused c.in-Err.refusal)))
