@@ -69,7 +69,7 @@ test-c:
 	$(OUT)/hall_example | diff tests/hall/example.expected -
 	@echo "== whole updates of the update loop and regions against plain C"
 	$(PYTHON) -m bench.run --compare
-	@echo "== whole updates of the update loop in 12 KiB of stack"
+	@echo "== whole updates of the update loop in a stack of 11,500 bytes"
 	$(CC) $(CFLAGS) -Ibench -o $(OUT)/stack tests/loop/stack.c target/staticlib/libupdate_loop.a
 	$(OUT)/stack target/bench/settings_1.44 tests/bitmaps/panel_1_44.netpbm.bmp target/bench/settings_2 tests/bitmaps/panel_2_0.netpbm.bmp \
 	    target/bench/settings_2.7 tests/bitmaps/panel_2_7.netpbm.bmp

@@ -75,9 +75,15 @@ def profile(panel):
     subprocess.run(["valgrind", "--tool=callgrind", f"--callgrind-out-file={trace}", "--toggle-collect=store_update",
                     f"{OUT}/update", settings_path(panel), "1"], check=True, stdout=subprocess.DEVNULL, stderr=subprocess.DEVNULL)
     text = subprocess.run(["callgrind_annotate", trace], check=True, stdout=subprocess.PIPE, text=True).stdout
-    rows = re.findall(r"^ *([\d,]+) \( ?([\d.]+)%\) +\S*?([\w:]+) \[", text, re.M)
-    return [(name.split(":", 1)[-1].lstrip(":"), int(count.replace(",", "")) // 1000, share) for count, share, name in rows
-            if float(share) >= 1]
+    # a generic function has a row for each of its types and numbers: `wire::put_dots::<=1>`
+    rows = re.findall(r"^ *([\d,]+) \( ?[\d.]+%\) +\S*?([\w:]+?)(?:::<\S*>)? \[", text, re.M)
+    whole = int(re.search(r"^ *([\d,]+) .*PROGRAM TOTALS", text, re.M).group(1).replace(",", ""))
+    counts = {}
+    for count, name in rows:
+        name = name.split(":", 1)[-1].lstrip(":")
+        counts[name] = counts.get(name, 0) + int(count.replace(",", ""))
+    return [(name, count // 1000, f"{100 * count / whole:.2f}") for name, count in sorted(counts.items(), key=lambda row: -row[1])
+            if 100 * count >= whole]
 
 
 def row(work, ours, theirs, unit, scale, ratio=".2f"):

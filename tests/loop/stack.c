@@ -1,8 +1,8 @@
 /*
  * How much stack a whole update takes: store_update of crates/update_loop runs on a stack that was filled with one byte, and what it
- * changed is counted. At most 12 KiB may be, so that a thread with 16 KiB has room for it.
+ * changed is counted. Of the 16 KiB of the smallest thread some 11,900 bytes are left for its function, so at most 11,500 may be changed.
  *
- * Usage: stack SETTINGS BITMAP ..     pairs of files; each update must be accepted
+ * Usage: stack SETTINGS BITMAP ..     pairs of files; each run must put the bytes of a whole update out
  */
 #define _XOPEN_SOURCE 700
 #include <stdio.h>
@@ -13,7 +13,7 @@
 #include "store.h"
 
 enum { SETTINGS_MAX = 637, BITMAP_MAX = 6398, PICTURE_MAX = 5808, BUS_MAX = 2000000, UNTOUCHED = 0xA5 };
-enum { ROOM = 65536, MOST = 12288 };
+enum { ROOM = 65536, MOST = 11500 };
 
 static uint8_t settings[SETTINGS_MAX], bitmap[BITMAP_MAX], memory[2 * PICTURE_MAX], bus[BUS_MAX], stack[ROOM];
 static size_t settings_len, bitmap_len, memory_len, sent;
@@ -57,6 +57,8 @@ static size_t stack_taken(void)
 int main(int argc, char **argv)
 {
     static const size_t pictures[3] = {96 * 16, 96 * 25, 176 * 33};
+    /* 4 stages of N frames of 96 or 176 rows, a line of 2 x X / 8 + Y / 4 + 7 bytes each; the writes come on top */
+    static const size_t lines[3] = {4 * 16 * 96 * 63, 4 * 16 * 96 * 81, 4 * 21 * 176 * 117};
     int passed = 0, failed = 0;
 
     for (int i = 1; i + 1 < argc; i += 2) {
@@ -65,7 +67,7 @@ int main(int argc, char **argv)
         memory_len = 2 * pictures[settings[1] % 3];
         size_t taken = stack_taken();
         printf("panel %u: %zu bytes for the panel, %zu of stack\n", settings[1], sent, taken);
-        *(sent > 0 && taken <= MOST ? &passed : &failed) += 1;
+        *(sent > lines[settings[1] % 3] && taken <= MOST ? &passed : &failed) += 1;
     }
     printf("%d passed, %d failed\n", passed, failed);
     return !(passed > 0 && failed == 0);

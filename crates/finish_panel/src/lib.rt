@@ -2,7 +2,7 @@
 #![tactic(auto)]
 
 ghost use Rattle.std.specs.Prelude.{◌≡◌, ◌≤◌, true, [], length, replicate, IfSome, option_copied};
-ghost use Rattle.finish_order.specs.Order.{write};
+ghost use Rattle.finish_order.specs.Order.{write, thing_at, things_of};
 ghost use Rattle.finish_order.specs.Facts.{thing_of, step_within};
 ghost use Rattle.finish_panel.specs.Update.{answer_given, give_out, normal_update, fast_update};
 ghost use Rattle.finish_panel.specs.Facts.{second_frame, update_in, Begun};
@@ -93,10 +93,35 @@ fn give_step(
     }
 }
 
+// The thing after `given` others, where nothing is refused but for want of room. It is compiled by itself, and `give_next` into its callers,
+// so that a refusal takes little time and stack.
+#[inline(never)]
+fn give_thing(
+    otp: &[u8; 128],
+    index: u8,
+    new: &[u8],
+    shown: Option<&[u8]>,
+    given: u32,
+    out: &mut [u8],
+) -> Result<Given, Refusal>
+    requires sizes { length new.now ≤ 48000 }
+    requires lent { IfSome shown (λ s. length s.now ≤ 48000) }
+    ensures { (answer_given result, out.new)
+        ≡ give_out []
+        (thing_at
+        (things_of otp.now index new.now (second_frame (option_copied shown.entry) (length new.now)))
+        given)
+        out.old }
+{
+    let step = finish_order::step_at(otp, given as usize);
+    give_step(step, otp, index, new, shown, out)
+}
+
 // ---- the calls
 
 // The thing after `given` others, in a mode: fast mode is lent the shown picture, normal mode none. The two public calls over it stand for
 // the two modes, as `normal_update` and `fast_update` of specs/, of the theorems and of the C interface do.
+#[inline(always)]
 fn give_next(
     mode: Mode,
     otp: &[u8],
@@ -114,8 +139,7 @@ fn give_next(
     };
     let as_long = shown.unwrap_or(new);
     let index = finish_rules::check(otp, mode, temperature, new.len(), as_long.len())?;
-    let step = finish_order::step_at(otp, given as usize);
-    give_step(step, otp, index, new, shown, out)
+    give_thing(otp, index, new, shown, given, out)
 }
 
 // Normal mode: the thing that comes after `given` others. A write goes to the front of `out`.

@@ -19,7 +19,7 @@ ghost use Rattle.update_loop.specs.Loop.{
 
 pub mod parts;
 
-use board::State;
+use board::{Reply, State};
 use poll::Answer;
 use run::Tick;
 
@@ -34,8 +34,8 @@ fn after(bytes: &[u8], at: usize, n: usize) -> usize
     at + n.min(bytes.len() - at)
 }
 
-// Shows slot 1: starts a run, and polls it until it is done. Answers how many bytes went to the panel, or 0 after a refusal. It is not
-// compiled into its caller, whose stack would then hold the states of a run while the bitmap before it is uploaded.
+// Shows slot 1: starts a run, and polls it until it is done. Answers how many bytes went to the panel, or 0 after a refusal. It is compiled
+// by itself, and so is `stored`: in `store_update` the states of an upload and those of a run would lie on the stack together.
 #[inline(never)]
 fn show(state: State, memory: &mut [u8], bus: &mut [u8]) -> usize
     ensures { (result, memory.new, bus.new) ≡ slot_shown state memory.old bus.old }
@@ -78,6 +78,15 @@ fn feed(state: State, memory: &mut [u8], bitmap: &[u8], size: usize) -> State
     state
 }
 
+// Opens a store and uploads a bitmap to slot 1. `store_bitmap` does not call it: that would take a state more of stack.
+#[inline(never)]
+fn stored(settings: &[u8], bitmap: &[u8], memory: &mut [u8]) -> Reply
+    ensures { (result, memory.new) ≡ bitmap_stored settings.now bitmap.now memory.old }
+{
+    let opened = board::open(settings, 1, memory);
+    opened.state.upload_bitmap(memory, 1, bitmap)
+}
+
 // Opens a store, uploads a bitmap to slot 1 and shows it. Answers how many bytes went to the panel.
 #[unsafe(no_mangle)]
 pub extern "C" fn store_update(
@@ -89,9 +98,8 @@ pub extern "C" fn store_update(
     ensures { (result, memory.new, bus.new)
         ≡ updated settings.now bitmap.now memory.old bus.old }
 {
-    let opened = board::open(settings, 1, memory);
-    let uploaded = opened.state.upload_bitmap(memory, 1, bitmap);
-    show(uploaded.state, memory, bus)
+    let stored = stored(settings, bitmap, memory);
+    show(stored.state, memory, bus)
 }
 
 // Opens a store; answers the number of the opening.

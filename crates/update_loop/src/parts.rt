@@ -22,7 +22,9 @@ fn picture_shape(panel: u32, len: usize) -> Option<Shape>
     }
 }
 
-// The copy of a file, whose header is not looked at but for its palette, into a picture of a panel.
+// The copy of a file, whose header is not looked at but for its palette, into a picture of a panel. It is
+// compiled by itself, which takes less stack.
+#[inline(never)]
 fn copy(panel: u32, bitmap: &[u8], picture: &mut [u8]) -> Result<(), Refusal>
     ensures { (number_given result, picture.new) ≡ picture_copied panel bitmap.now picture.old }
 {

@@ -83,7 +83,9 @@ impl Codes {
     }
 }
 
-// Puts the codes of every second dot of a row: of its odd dots, last to first, or of its even dots, first to last.
+// Puts the codes of every second dot of a row: of its odd dots, last to first, or of its even dots, first to last. It is compiled by itself:
+// both loops together would take more stack.
+#[inline(never)]
 fn put_dots<const ODD: bool>(out: &mut [u8], at: usize, row: &[u8], codes: Codes)
     requires { at + length row.now ≤ length out.old }
     ensures { out.new

@@ -25,11 +25,11 @@ returns-in_err-index c =
     rw (p.1, p.2) (refused_in a.mode a.otp.now a.temperature a.new.now (option_copied a.shown) a.given a.out.now c.in_err-index.field-0.0
     (rw (handed, c.in-Ok.ensures.1.same, c.unwrap_or-as_long.ensures, shown_as a.shown a.new) at c.in_err-index.ensures.number))
 
-pub give_step-requires-clause-sizes : goal.give_step-requires-clause-sizes
-give_step-requires-clause-sizes c = (picture_size _ c.in_ok-index.ensures.accepted.0.picture).1
+pub give_thing-requires-clause-sizes : goal.give_thing-requires-clause-sizes
+give_thing-requires-clause-sizes c = (picture_size _ c.in_ok-index.ensures.accepted.0.picture).1
 
-pub give_step-requires-clause-lent : goal.give_step-requires-clause-lent
-give_step-requires-clause-lent c =
+pub give_thing-requires-clause-lent : goal.give_thing-requires-clause-lent
+give_thing-requires-clause-lent c =
     let a = c.args in
     let f = c.in_ok-index.ensures.accepted.0 in
     let same = rw (c.unwrap_or-as_long.ensures, shown_as a.shown a.new) at f.same_size in
@@ -42,4 +42,4 @@ returns c =
     let whole = c.in-Ok.ensures.1.same in
     let taken = rw (handed, whole, c.unwrap_or-as_long.ensures, shown_as a.shown a.new) at c.in_ok-index.ensures.accepted in
     given_in a.mode a.otp.now a.temperature a.new.now (option_copied a.shown) a.given a.out.now taken.0
-    (rw (c.step_at-step.ensures.is _ _ _, whole, taken.1) at c.give_step.ensures)
+    (rw (whole, taken.1) at c.give_thing.ensures)
